@@ -1,0 +1,2 @@
+pub mod Quadlets
+pub mod Samples

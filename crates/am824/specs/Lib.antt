@@ -1,0 +1,5 @@
+pub mod Codes
+pub mod Makings
+pub mod Reading
+pub mod SampleViews
+pub mod Samples

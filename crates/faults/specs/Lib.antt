@@ -1,0 +1,5 @@
+pub mod Located
+pub mod Packets
+pub mod Records
+pub mod Refusals
+pub mod Units
