@@ -30,13 +30,17 @@ abbrev pub twos : ℤ → ℕ
 twos (pos n) = n
 twos (negsuc n) = 16777215 - n
 
+-- the two's complement of a signed number
+abbrev pub signed : ℤ → Bits24
+signed n = fromField (twos n)
+
 -- below -8,388,608 or above 8,388,607
 abbrev pub outside : ℤ → Bool
 outside n = ltZ n (negsuc 8388607) || ltZ (pos 8388607) n
 
 -- the bits of a bare signed number
 abbrev pub madeSigned : ℤ → Result Bits24 UnitFault
-madeSigned n = cond (outside n) (Err fieldFault) (Ok (fromField (twos n)))
+madeSigned n = cond (outside n) (Err fieldFault) (Ok (signed n))
 
 abbrev pub bytes : Bits24 → List ℕ
 bytes b = b .high ∷ b .low / 256 ∷ b .low % 256 ∷ []

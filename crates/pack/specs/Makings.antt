@@ -1,24 +1,21 @@
 -- Packs made from bare numbers.
-use mathlib.Core.Path.{_≡_}
-use mathlib.Core.Bool.{Bool, true, false, _||_}
-use mathlib.Core.List.{List, _++_}
-use Prim.Native.Nat.{ℕ}
+use mathlib.Core.Bool.{cond, _||_}
 use lib.IntN.{ℤ}
 use Rattle.std.specs.declared.result.Result.{Result}
 use Rattle.std.specs.declared.result.Result.the-variants.{Ok, Err}
 use Rattle.faults.specs.declared.units.UnitFault.{UnitFault}
 use Rattle.faults.specs.Units.{field}
-use Rattle.kinds.specs.Bits.{outside, twos, fieldBytes}
+use Rattle.kinds.specs.declared.bits24.Bits24.{Bits24}
+use Rattle.kinds.specs.Bits.{outside, signed}
 use Rattle.pack.specs.declared.unit.PackUnit.{PackUnit}
-use Rattle.pack.specs.Codes.{code}
 
-abbrev pub noPack : ℤ → ℤ → ℤ → ℤ → Bool
-noPack a b c d = outside a || (outside b || (outside c || outside d))
+-- two samples, or the refusal where a number is outside its field
+abbrev pub madeTwo : ℤ → ℤ → Result (Bits24 × Bits24) UnitFault
+madeTwo a b = cond (outside a || outside b) (Err field) (Ok (signed a, signed b))
 
-abbrev pub packBytes : ℤ → ℤ → ℤ → ℤ → List ℕ
-packBytes a b c d = fieldBytes (twos a) ++ fieldBytes (twos b) ++ fieldBytes (twos c) ++ fieldBytes (twos d)
+abbrev pub pack : ℤ → ℤ → ℤ → ℤ → PackUnit
+pack a b c d = record { first = signed a; second = signed b; third = signed c; fourth = signed d }
 
--- refused where a number is outside, else the one pack that has these bytes
-abbrev pub Made : ℤ → ℤ → ℤ → ℤ → Result PackUnit UnitFault → Type 0
-Made a b c d (Ok u) = (noPack a b c d ≡ false) × (code u ≡ packBytes a b c d)
-Made a b c d (Err f) = (noPack a b c d ≡ true) × (f ≡ field)
+-- a pack, or the refusal where a number is outside its field
+abbrev pub made : ℤ → ℤ → ℤ → ℤ → Result PackUnit UnitFault
+made a b c d = cond ((outside a || outside b) || (outside c || outside d)) (Err field) (Ok (pack a b c d))
