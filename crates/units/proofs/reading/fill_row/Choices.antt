@@ -1,0 +1,11 @@
+use mathlib.Core.Path.{_≡_}
+use mathlib.Core.List.{List, _++_}
+use Prim.Native.Nat.{_*_}
+use lib.ListN.{drop}
+use Rattle.units.proofs.Rows.{Reached}
+use Rattle.units.proofs.reading.fill_row.Given as given
+
+abbrev pub Inv-loop-i : given.InvT-loop-i
+Inv-loop-i g l =
+    (us : List (g .K·Unit .Denot)) × Reached (4 * g .K·Kind .size) (g .K·Kind .heard) (l .count) (l .bytes) (l .i) (l .at) us
+    × (l .list ≡ us ++ drop (l .i) (l .entry .list))
