@@ -3,3 +3,4 @@ pub mod Makings
 pub mod Reading
 pub mod SampleViews
 pub mod Samples
+pub mod Texts

@@ -1,6 +1,7 @@
 ghost use mathlib.Core.Path.{_≡_};
+ghost use Prim.Native.Nat.{_+_, _*_};
 ghost use Rattle.std.specs.Results.{Cases};
-ghost use Rattle.kinds.specs.Bits.{bytes as bytesOf, fromBytes, number as numberOf, made, madeSigned};
+ghost use Rattle.kinds.specs.Bits.{bytes as bytesOf, field as fieldOf, fromBytes, fromField, number as numberOf, made, madeSigned};
 use faults::UnitFault;
 
 /// 24 bits: a high byte and 16 low bits.
@@ -22,6 +23,23 @@ impl Bits24 {
             high: (field / 65_536) as u8,
             low: (field % 65_536) as u16,
         })
+    }
+
+    /// The bits as a number from 0 to 16,777,215.
+    pub fn field(self) -> u32
+        ensures { λ r. ⌜ r ≡ fieldOf self ⌝ }
+    {
+        65_536 * (self.high as u32) + self.low as u32
+    }
+
+    /// The upper 16 and the lower 8 bits together.
+    pub fn joined(upper: u16, lower: u8) -> Bits24
+        ensures { λ r. ⌜ r ≡ fromField (256 * upper + lower) ⌝ }
+    {
+        Bits24 {
+            high: (upper / 256) as u8,
+            low: 256 * (upper % 256) + lower as u16,
+        }
     }
 
     /// The two's complement of a number from -8,388,608 to 8,388,607.

@@ -3,6 +3,7 @@
 mod bits24;
 mod kind;
 mod nibble;
+mod texts;
 
 pub use bits24::Bits24;
 pub use bits24::Bits24Debug;
@@ -11,3 +12,4 @@ pub use kind::Kind;
 pub use nibble::Nibble;
 pub use nibble::NibbleDebug;
 pub use nibble::NibblePartialEq;
+pub use texts::Bits24Display;

@@ -39,16 +39,6 @@ fn field(number: i32) -> u32
     }
 }
 
-/// 24 bits of their upper 16 and lower 8.
-fn above(upper: u16, lower: u8) -> Bits24
-    ensures { λ r. ⌜ r ≡ fromField (256 * upper + lower) ⌝ }
-{
-    Bits24 {
-        high: (upper / 256) as u8,
-        low: 256 * (upper % 256) + lower as u16,
-    }
-}
-
 /// The unit of a length code and a field.
 fn raw(code: u8, field: u32) -> Am824Unit
     requires { ⌜ field < 16777216 ⌝ }
@@ -56,7 +46,7 @@ fn raw(code: u8, field: u32) -> Am824Unit
 {
     let upper = (field / 256) as u16;
     match code {
-        0 => Am824Unit::Raw24(above(upper, (field % 256) as u8)),
+        0 => Am824Unit::Raw24(Bits24::joined(upper, (field % 256) as u8)),
         1 => Am824Unit::Raw20(upper, Nibble::low((field / 16 % 256) as u8)),
         _ => Am824Unit::Raw16(upper),
     }
@@ -107,11 +97,11 @@ impl Sample {
             }),
             Am824Unit::Raw20(upper, lower) => Some(Sample {
                 code: 1,
-                number: above(upper, 16 * lower.value()).number(),
+                number: Bits24::joined(upper, 16 * lower.value()).number(),
             }),
             Am824Unit::Raw16(upper) => Some(Sample {
                 code: 2,
-                number: above(upper, 0).number(),
+                number: Bits24::joined(upper, 0).number(),
             }),
             _ => None,
         }
