@@ -31,6 +31,7 @@ pub use records::RecordPositionPartialEq;
 pub use refusals::Refusal;
 pub use refusals::RefusalDebug;
 pub use refusals::RefusalDisplay;
+pub use refusals::RefusalError;
 pub use refusals::RefusalPartialEq;
 pub use units::UnitCause;
 pub use units::UnitCauseDebug;

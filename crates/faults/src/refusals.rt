@@ -1,5 +1,6 @@
 ghost use Rattle.std.specs.declared.option.Option.the-variants.{Some};
 ghost use Rattle.faults.specs.Refusals.{text};
+use std::error::Error;
 use std::fmt;
 
 /// A refusal as it is told: its number, and a place counted in bytes from 0.
@@ -18,3 +19,5 @@ pub impl fmt::Display for Refusal as RefusalDisplay {
         write!(f, "refused {number} at {place}")
     }
 }
+
+pub impl Error for Refusal as RefusalError {}

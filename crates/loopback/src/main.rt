@@ -1,0 +1,17 @@
+//! Makes units of every case from bare numbers, writes them into bytes as one row and reads the
+//! row back, then shows one refusal of each cause.
+
+mod refusals;
+mod rows;
+
+use std::error::AnyError;
+
+fn run(rt: &LibcRuntime) -> Result<(), AnyError> {
+    rows::show_am824(rt)?;
+    rows::show_pack(rt)?;
+    refusals::show(rt)
+}
+
+fn main(rt: LibcRuntime) -> Result<(), AnyError> {
+    rt.report(run(&rt))
+}
