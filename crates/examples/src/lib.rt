@@ -2,6 +2,7 @@
 
 mod carrying;
 mod units;
+mod word;
 
 pub use carrying::read_in_packet;
 pub use carrying::read_in_record;
@@ -10,3 +11,6 @@ pub use units::midi_byte_beyond_the_count;
 pub use units::minus_sixteen_in_twenty_bits;
 pub use units::padding_that_is_not_zero;
 pub use units::unknown_label;
+pub use word::Word;
+pub use word::WordKind;
+pub use word::WordUnit;

@@ -1,10 +1,11 @@
-use mathlib.Core.Path.{refl, ap, subst, _∙_}
-use mathlib.Core.List.{[], _∷_}
+use mathlib.Core.Path.{_≡_, refl, ap, subst, _∙_}
 use Prim.Native.Nat.{_+_, _*_, _/_, _%_}
-use native.Mathlib.Omega.{arith}
 use lib.ListN.{getD}
 use Rattle.std.specs.declared.result.Result.the-variants.{Ok}
 use Rattle.am824.specs.declared.unit.Am824Unit.the-variants.{Subframe, Raw24, Raw20, Raw16, Midi0, Midi1, Midi2, Midi3}
+use Rattle.kinds.proofs.Quadlets.{four-bytes}
+use Rattle.am824.specs.Codes.{code}
+use Rattle.am824.specs.Reading.{heard}
 use Rattle.am824.proofs.Quadlets.{framed, raw20, halves, Sound, sound}
 use Rattle.am824.proofs.kind.Am824Kind.the-impl.Needs as need
 
@@ -20,12 +21,7 @@ back-law (Midi2 x y) = refl
 back-law (Midi3 x y z) = refl
 
 pub only-law : need.only-law
-only-law [] l k u e = absurd (omega arith)
-only-law (a ∷ []) l k u e = absurd (omega arith)
-only-law (a ∷ b ∷ []) l k u e = absurd (omega arith)
-only-law (a ∷ b ∷ c ∷ []) l k u e = absurd (omega arith)
-only-law (a ∷ b ∷ c ∷ d ∷ []) l k u e = subst (Sound a b c d) e (sound a b c d) (k .1 .1 .0) (k .1 .1 .1 .0)
-only-law (a ∷ b ∷ c ∷ d ∷ x ∷ xs) l k u e = absurd (omega arith)
+only-law bs l k u e = four-bytes (λ bytes. heard bytes ≡ Ok u → bytes ≡ code u) (λ a b c d h i j f. subst (Sound a b c d) f (sound a b c d) i j) bs l k e
 
 pub inside-law : need.inside-law
 inside-law bs f e =
