@@ -27,11 +27,11 @@ pub enum PacketFault {
     Header,
     /// FDF is neither the plan's nor that of an idle packet.
     Format,
-    /// The payload is no whole number of blocks, or too many.
+    /// The payload ends inside a block, or has more blocks than the plan allows.
     Payload,
     /// SYT is no time, or the packet has no block for it.
     Stamp,
-    /// The caller's list holds fewer units than the packet.
+    /// The list for the units is shorter than what the packet holds.
     List,
     /// A unit is refused.
     Unit(Located<UnitPosition, UnitFault>),
