@@ -1,0 +1,5 @@
+pub mod Delays
+pub mod Faults
+pub mod Methods
+pub mod Planning
+pub mod Rates

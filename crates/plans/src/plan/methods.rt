@@ -1,0 +1,43 @@
+ghost use mathlib.Core.Path.{_≡_};
+ghost use Prim.Native.Nat.{_+_, _*_, _≤_};
+ghost use Rattle.std.specs.declared.option.Option.the-variants.{Some, None};
+ghost use Rattle.std.specs.Results.{Cases};
+ghost use Rattle.plans.specs.Planning.{planRefusal};
+ghost use Rattle.plans.specs.Rates.{interval as intervalOf};
+use crate::fault::PlanFault;
+use crate::plan::Plan;
+use crate::rate::Rate;
+use kinds::Kind;
+use std::marker::PhantomData;
+
+/// The quadlets of a full packet: its header and the blocks of an interval.
+fn full_packet(interval: u8, dimension: u32, size: u16) -> u64
+    requires some { ⌜ 1 ≤ interval ⌝ }
+    requires sized { ⌜ 1 ≤ size ⌝ }
+    ensures value { λ r. ⌜ r ≡ 2 + interval * dimension * size ⌝ }
+    ensures least { λ r. ⌜ 2 + dimension ≤ r ⌝ }
+{
+    2 + interval as u64 * dimension as u64 * size as u64
+}
+
+impl<K: Kind> Plan<K> {
+    /// The plan of a sampling frequency code and a number of units a block.
+    pub fn new(sfc: u8, dimension: u32) -> Result<Plan<K>, PlanFault>
+        ensures { λ r. ⌜ Cases r (λ p. (planRefusal size sfc dimension ≡ None) × (p .sfc ≡ sfc) × (p .dimension ≡ dimension) × (p .quadlets ≡ size) × (p .event ≡ event)) (λ f. planRefusal size sfc dimension ≡ Some f) ⌝ }
+    {
+        let Some(rate) = Rate::of(sfc) else {
+            return Err(PlanFault::Rate);
+        };
+        let quadlets = K::size();
+        if dimension == 0 || full_packet(rate.interval, dimension, quadlets) > 1024 {
+            return Err(PlanFault::Dimension);
+        }
+        Ok(Plan {
+            kind: PhantomData,
+            sfc,
+            dimension: dimension as u16,
+            quadlets,
+            event: K::event(),
+        })
+    }
+}
