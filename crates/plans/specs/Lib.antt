@@ -3,3 +3,5 @@ pub mod Faults
 pub mod Methods
 pub mod Planning
 pub mod Rates
+pub mod Stamps
+pub mod Streams

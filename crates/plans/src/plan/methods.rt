@@ -40,4 +40,43 @@ impl<K: Kind> Plan<K> {
             event: K::event(),
         })
     }
+
+    /// The sampling frequency code.
+    pub fn sfc(&self) -> u8
+        ensures { λ r. ⌜ r ≡ now (self .entry) .sfc ⌝ }
+    {
+        self.sfc
+    }
+
+    /// The units of a block.
+    pub fn dimension(&self) -> u16
+        ensures { λ r. ⌜ r ≡ now (self .entry) .dimension ⌝ }
+    {
+        self.dimension
+    }
+
+    /// SYT_INTERVAL: of so many blocks one is stamped, and so many at most go into a packet.
+    pub fn interval(&self) -> u8
+        ensures { λ r. ⌜ r ≡ intervalOf (now (self .entry) .sfc) ⌝ }
+    {
+        match self.sfc {
+            0..=2 => 8,
+            3..=4 => 16,
+            _ => 32,
+        }
+    }
+
+    /// DBS: the quadlets of a block.
+    pub fn dbs(&self) -> u8
+        ensures { λ r. ⌜ r ≡ now (self .entry) .dimension * now (self .entry) .quadlets ⌝ }
+    {
+        (self.dimension as u32 * self.quadlets as u32) as u8
+    }
+
+    /// FDF: the event type and the sampling frequency code.
+    pub fn fdf(&self) -> u8
+        ensures { λ r. ⌜ r ≡ 16 * now (self .entry) .event + now (self .entry) .sfc ⌝ }
+    {
+        16 * self.event + self.sfc
+    }
 }
