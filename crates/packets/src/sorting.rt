@@ -1,5 +1,5 @@
 ghost use mathlib.Core.Path.{_≡_};
-ghost use Prim.Native.Nat.{_*_, _≤_};
+ghost use Prim.Native.Nat.{_≤_};
 ghost use lib.ListN.{length};
 ghost use Rattle.std.specs.declared.option.Option.the-variants.{Some, None};
 ghost use Rattle.std.specs.Results.{Cases};
@@ -33,21 +33,13 @@ fn bad_format<K: Kind>(plan: &Plan<K>, packet: &[u8]) -> bool
     packet[5] != 0xff && packet[5] != plan.fdf()
 }
 
-/// The bytes of a block.
-fn block_bytes<K: Kind>(plan: &Plan<K>) -> usize
-    ensures value { λ r. ⌜ r ≡ 4 * size * now (plan .entry) .dimension ⌝ }
-    ensures some { λ r. ⌜ 1 ≤ r ⌝ }
-{
-    4 * K::size() as usize * plan.dimension() as usize
-}
-
 /// Whether a payload ends inside a block, or has more blocks than an interval.
 fn bad_payload<K: Kind>(plan: &Plan<K>, packet: &[u8]) -> bool
     requires { ⌜ 8 ≤ length (now packet) ⌝ }
     ensures { λ r. ⌜ r ≡ badPayload (stream size code heard (now (plan .entry))) (now (packet .entry)) ⌝ }
 {
     let payload = packet.len() - 8;
-    let block = block_bytes(plan);
+    let block = plan.block_bytes();
     payload % block != 0 || payload / block > plan.interval() as usize
 }
 
@@ -57,7 +49,7 @@ fn bad_stamp<K: Kind>(plan: &Plan<K>, packet: &[u8]) -> bool
     ensures { λ r. ⌜ r ≡ badStamp (stream size code heard (now (plan .entry))) (now (packet .entry)) ⌝ }
 {
     let syt = 256 * (packet[6] as u16) + packet[7] as u16;
-    let blocks = (packet.len() - 8) / block_bytes(plan);
+    let blocks = (packet.len() - 8) / plan.block_bytes();
     let index = plan.stamped_index(packet[3] as u32) as usize;
     syt != 0xffff && (syt % 4096 > 3071 || blocks <= index)
 }

@@ -79,4 +79,13 @@ impl<K: Kind> Plan<K> {
     {
         16 * self.event + self.sfc
     }
+
+    /// The bytes of a block.
+    pub fn block_bytes(&self) -> usize
+        ensures value { λ r. ⌜ r ≡ 4 * size * now (self .entry) .dimension ⌝ }
+        ensures some { λ r. ⌜ 1 ≤ r ⌝ }
+        ensures most { λ r. ⌜ r ≤ 4 * 1022 * 1022 ⌝ }
+    {
+        4 * K::size() as usize * self.dimension as usize
+    }
 }
