@@ -1,0 +1,4 @@
+pub mod Faults
+pub mod Making
+pub mod Sending
+pub mod Views
