@@ -1,3 +1,4 @@
 pub mod Carrying
+pub mod Streams
 pub mod Units
 pub mod Words
