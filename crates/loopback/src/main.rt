@@ -1,15 +1,17 @@
 //! Makes units of every case from bare numbers, writes them into bytes as one row and reads the
-//! row back, then shows one refusal of each cause.
+//! row back, shows one refusal of each cause, then plans a stream and sends it by both methods.
 
 mod refusals;
 mod rows;
+mod sending;
 
 use std::error::AnyError;
 
 fn run(rt: &LibcRuntime) -> Result<(), AnyError> {
     rows::show_am824(rt)?;
     rows::show_pack(rt)?;
-    refusals::show(rt)
+    refusals::show(rt)?;
+    sending::show(rt)
 }
 
 fn main(rt: LibcRuntime) -> Result<(), AnyError> {
