@@ -35,7 +35,7 @@ pub record Score (U : Type 0) : Type 0 where
   pub arrivals : List ℕ
   pub units : List U
 
--- a cycle is not later than the last accepted one, if there was one
+-- a send was accepted before, in this cycle or a later one
 abbrev pub notLater : ℕ → Option ℕ → Bool
 notLater c None = false
 notLater c (Some last) = leb c last

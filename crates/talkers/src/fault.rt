@@ -32,7 +32,7 @@ impl TalkerFault {
 pub enum SendFault {
     /// The score is too long, has not the plan's units to a block, or ends before the place reached.
     Score,
-    /// The cycle is not later than the last accepted one.
+    /// A send was accepted before, in this cycle or a later one.
     Cycle,
     /// The bytes are too few for the packet.
     Room,

@@ -24,7 +24,7 @@ pub fn bad_score(blocks: usize, units: usize, dimension: u16, place: u32) -> boo
     blocks > 65_536 || units != dimension as usize * blocks || blocks < place as usize
 }
 
-/// Whether a cycle is not later than the last accepted one.
+/// Whether a send was accepted before, in this cycle or a later one.
 pub fn not_later(cycle: u32, last: Option<u32>) -> bool
     ensures { λ r. ⌜ r ≡ notLater cycle last ⌝ }
 {
