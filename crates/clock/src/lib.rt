@@ -5,6 +5,7 @@
 
 ghost use mathlib.Core.Path.{_≡_};
 ghost use Prim.Native.Nat.{ℕ, _+_, _*_, _%_, _<_, _≤_};
+ghost use Rattle.clock.specs.Cycles.{notLater};
 ghost use Rattle.clock.specs.Ticks.{start as startOf, stamp as stampOf, Told};
 
 /// The tick at which a cycle starts.
@@ -12,6 +13,16 @@ pub fn start(cycle: u32) -> u64
     ensures { λ r. ⌜ r ≡ startOf cycle ⌝ }
 {
     3072 * cycle as u64
+}
+
+/// Whether something was accepted before, in this cycle or a later one.
+pub fn not_later(cycle: u32, last: Option<u32>) -> bool
+    ensures { λ r. ⌜ r ≡ notLater cycle last ⌝ }
+{
+    match last {
+        Some(accepted) => cycle <= accepted,
+        None => false,
+    }
 }
 
 /// The stamp of a time: its cycle modulo 16 in the upper four bits, its tick in the cycle below.

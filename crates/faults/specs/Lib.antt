@@ -1,4 +1,5 @@
 pub mod Located
+pub mod Outcomes
 pub mod Packets
 pub mod Records
 pub mod Refusals

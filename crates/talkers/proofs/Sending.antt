@@ -14,12 +14,14 @@ use Rattle.std.specs.Joined.{joined}
 use Rattle.std.specs.declared.option.Option.{Option}
 use Rattle.std.specs.declared.option.Option.the-variants.{Some, None}
 use Rattle.std.specs.declared.result.Result.the-variants.{Ok, Err}
+use Rattle.clock.specs.Cycles.{notLater}
+use Rattle.faults.specs.Outcomes.{answered, changed}
 use Rattle.kinds.specs.Codes.{laid}
 use Rattle.packets.specs.Headers.{headerBytes}
 use Rattle.plans.specs.Streams.{every, dbs, fdf, blockBytes}
 use Rattle.talkers.specs.declared.fault.SendFault.{SendFault}
 use Rattle.talkers.specs.declared.fault.SendFault.the-variants.{Room}
-use Rattle.talkers.specs.Sending.{Desk, State, Score, notLater, sytFor, badScore, blocks, packetLength, packet, sendRefusal, answered, changed, Sends}
+use Rattle.talkers.specs.Sending.{Desk, State, Score, sytFor, badScore, blocks, packetLength, packet, sendRefusal, Sends}
 
 -- the units of blocks that the score has
 pub units-there : (dimension place blocks n units : ℕ) → place + blocks ≤ n → units ≡ dimension * n → dimension * (place + blocks) ≤ units

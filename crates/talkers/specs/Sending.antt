@@ -1,5 +1,5 @@
 -- What a send answers and leaves, for every score, cycle and bytes.
-use mathlib.Core.Bool.{Bool, true, false, cond, not, _&&_, _||_}
+use mathlib.Core.Bool.{Bool, cond, not, _&&_, _||_}
 use mathlib.Core.List.{List, _++_}
 use mathlib.Core.Path.{_≡_}
 use Prim.Native.Nat.{ℕ, _+_, _*_, _%_}
@@ -9,9 +9,10 @@ use Rattle.std.specs.Joined.{joined}
 use Rattle.std.specs.declared.option.Option.{Option}
 use Rattle.std.specs.declared.option.Option.the-variants.{Some, None}
 use Rattle.std.specs.declared.result.Result.{Result}
-use Rattle.std.specs.declared.result.Result.the-variants.{Ok, Err}
 use Rattle.std.specs.shelf.Lists.{leading}
+use Rattle.clock.specs.Cycles.{notLater}
 use Rattle.clock.specs.Ticks.{start, stamp}
+use Rattle.faults.specs.Outcomes.{answered, changed}
 use Rattle.packets.specs.Headers.{headerBytes}
 use Rattle.plans.specs.Stamps.{stampedIndex}
 use Rattle.plans.specs.Streams.{Stream, every, dbs, fdf, blockBytes}
@@ -35,11 +36,6 @@ pub record Score (U : Type 0) : Type 0 where
   pub arrivals : List ℕ
   pub units : List U
 
--- a send was accepted before, in this cycle or a later one
-abbrev pub notLater : ℕ → Option ℕ → Bool
-notLater c None = false
-notLater c (Some last) = leb c last
-
 -- how many blocks have arrived by a tick, up to the first that has not
 abbrev pub due : ℕ → List ℕ → ℕ
 due by arrivals = leading (λ a. leb a by) arrivals
@@ -53,15 +49,6 @@ abbrev pub sytFor : ℕ → ℕ → List ℕ → ℕ → ℕ → ℕ → ℕ
 sytFor interval delay arrivals place blocks c =
     cond (ltb (stampedIndex interval place) blocks && leb (start c) (presented delay arrivals (place + stampedIndex interval place)))
     (stamp (presented delay arrivals (place + stampedIndex interval place))) 0xffff
-
--- the answer and what is left, under a refusal or without
-abbrev pub answered : {T E : Type 0} → Option E → T → Result T E
-answered (Some f) x = Err f
-answered None x = Ok x
-
-abbrev pub changed : {X E : Type 0} → Option E → X → X → X
-changed (Some f) was new = was
-changed None was new = new
 
 module _ {U : Type 0} (d : Desk U) (s : Score U) (t : State) (c : ℕ) where
   -- too many blocks, other units than the blocks want, or fewer blocks than were sent

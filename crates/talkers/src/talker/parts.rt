@@ -8,7 +8,7 @@ ghost use Rattle.std.specs.Joined.{joined};
 ghost use Rattle.clock.specs.Ticks.{start as startOf};
 ghost use Rattle.kinds.specs.Codes.{laidAnswer, laid};
 ghost use Rattle.plans.specs.Rates.{interval as intervalOf};
-ghost use Rattle.talkers.specs.Sending.{due, notLater, sytFor};
+ghost use Rattle.talkers.specs.Sending.{due, sytFor};
 use clock::stamp;
 use clock::start;
 use faults::UnitFault;
@@ -22,16 +22,6 @@ pub fn bad_score(blocks: usize, units: usize, dimension: u16, place: u32) -> boo
     ensures { λ r. ⌜ r ≡ (ltb 65536 blocks || (not (eqb units (dimension * blocks)) || ltb blocks place)) ⌝ }
 {
     blocks > 65_536 || units != dimension as usize * blocks || blocks < place as usize
-}
-
-/// Whether a send was accepted before, in this cycle or a later one.
-pub fn not_later(cycle: u32, last: Option<u32>) -> bool
-    ensures { λ r. ⌜ r ≡ notLater cycle last ⌝ }
-{
-    match last {
-        Some(accepted) => cycle <= accepted,
-        None => false,
-    }
 }
 
 /// How many blocks from a place on have arrived by a tick, up to the first that has not.

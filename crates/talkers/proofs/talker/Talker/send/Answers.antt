@@ -8,10 +8,11 @@ use lib.ListN.{length, take, drop}
 use Rattle.std.proofs.shelf.Bits.{mul-le}
 use Rattle.std.proofs.shelf.Results.{err-from-errBy}
 use Rattle.std.proofs.shelf.Tests.{cond-true}
+use Rattle.clock.specs.Cycles.{notLater}
 use Rattle.clock.specs.Ticks.{start}
 use Rattle.packets.specs.Headers.{headerBytes}
 use Rattle.plans.proofs.Intervals.{interval-most}
-use Rattle.talkers.specs.Sending.{badScore, notLater, due, blocks}
+use Rattle.talkers.specs.Sending.{badScore, due, blocks}
 use Rattle.talkers.specs.Views.{desk, state, scoreOf}
 use Rattle.talkers.proofs.Laying.{no-room, room-there}
 use Rattle.talkers.proofs.Sending.{units-there, Good, good, sends-no-room, sends-packet}
