@@ -2,14 +2,11 @@
 
 mod codec;
 mod kind;
-mod making;
-mod sample;
 mod texts;
 mod unit;
 
 pub use kind::Am824;
 pub use kind::Am824Kind;
-pub use sample::Sample;
 pub use texts::Am824UnitDisplay;
 pub use texts::MarkerDisplay;
 pub use unit::Am824Unit;
