@@ -1,10 +1,10 @@
 use am824::Am824;
 use am824::Am824Kind;
-use am824::Am824Unit;
-use am824::Am824UnitDisplay;
 use faults::RefusalDisplay;
 use faults::UnitFault;
 use kinds::Kind;
+use quadlets::Am824Unit;
+use quadlets::Am824UnitDisplay;
 use samples::raw;
 use std::error::AnyError;
 use texts::hex;

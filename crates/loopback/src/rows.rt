@@ -1,7 +1,5 @@
 use am824::Am824;
 use am824::Am824Kind;
-use am824::Am824Unit;
-use am824::Am824UnitDisplay;
 use faults::RefusalDebug;
 use faults::RefusalDisplay;
 use faults::RefusalError;
@@ -11,6 +9,8 @@ use pack::Pack;
 use pack::PackKind;
 use pack::PackUnit;
 use pack::PackUnitDisplay;
+use quadlets::Am824Unit;
+use quadlets::Am824UnitDisplay;
 use samples::midi;
 use samples::raw;
 use samples::subframe;

@@ -14,7 +14,7 @@ use Rattle.std.specs.declared.option.Option.the-variants.{Some}
 use Rattle.kinds.specs.Bits.{number, twos, fromField}
 use Rattle.kinds.specs.Nibbles.{value, low}
 use Rattle.kinds.proofs.Nibbles.{value-low}
-use Rattle.am824.specs.declared.unit.Am824Unit.{Am824Unit}
+use Rattle.quadlets.specs.declared.unit.Am824Unit.{Am824Unit}
 use Rattle.am824.specs.Codes.{code as code-of}
 use Rattle.samples.specs.Samples.{paddings, noSample, rawField, rawBytes, rawOf}
 

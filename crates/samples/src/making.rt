@@ -1,11 +1,11 @@
 ghost use Rattle.samples.specs.Makings.{Made, noSubframe, subframeBytes, noMidi, midiBytes};
 ghost use Rattle.samples.specs.Samples.{noSample, rawBytes};
 use crate::sample::Sample;
-use am824::Am824Unit;
-use am824::Marker;
 use faults::UnitFault;
 use kinds::Bits24;
 use kinds::Nibble;
+use quadlets::Am824Unit;
+use quadlets::Marker;
 
 /// A subframe of the upper half of its label (0, 1 or 3), the lower half, and its 24 bits.
 pub fn subframe(upper: u8, lower: u8, bits: u32) -> Result<Am824Unit, UnitFault>

@@ -9,10 +9,10 @@ ghost use Prim.Native.Nat.{_+_, _*_, _%_, _<_};
 ghost use Rattle.kinds.specs.Bits.{outside, twos, fromField, number as numberOf};
 ghost use lib.Dec.{eqb};
 use crate::sample::Sample;
-use am824::Am824Unit;
 use faults::UnitFault;
 use kinds::Bits24;
 use kinds::Nibble;
+use quadlets::Am824Unit;
 
 /// Whether the padding bits of a length code are zero.
 fn clear(code: u8, bits: Bits24) -> bool
