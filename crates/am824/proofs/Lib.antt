@@ -1,2 +1,1 @@
 pub mod Quadlets
-pub mod Samples

@@ -15,10 +15,10 @@ use Rattle.kinds.specs.declared.nibble.Nibble.{Nibble}
 use Rattle.kinds.specs.Bits.{fromBytes}
 use Rattle.kinds.specs.Nibbles.{value, low}
 use Rattle.kinds.proofs.Nibbles.{value-most, value-low, low-value}
-use Rattle.am824.specs.declared.unit.Marker.{Marker}
-use Rattle.am824.specs.declared.unit.Marker.the-variants.{Second, First, Start}
-use Rattle.am824.specs.declared.unit.Am824Unit.{Am824Unit}
-use Rattle.am824.specs.declared.unit.Am824Unit.the-variants.{Subframe, Raw24, Raw20, Raw16, Midi0, Midi1, Midi2, Midi3}
+use Rattle.quadlets.specs.declared.unit.Marker.{Marker}
+use Rattle.quadlets.specs.declared.unit.Marker.the-variants.{Second, First, Start}
+use Rattle.quadlets.specs.declared.unit.Am824Unit.{Am824Unit}
+use Rattle.quadlets.specs.declared.unit.Am824Unit.the-variants.{Subframe, Raw24, Raw20, Raw16, Midi0, Midi1, Midi2, Midi3}
 use Rattle.am824.specs.Codes.{marked, code}
 use Rattle.am824.specs.Reading.{within, strange, padded, unit, quadlet}
 

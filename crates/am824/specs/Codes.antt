@@ -3,10 +3,10 @@ use mathlib.Core.List.{List, [], _∷_}
 use Prim.Native.Nat.{ℕ, _+_, _*_, _/_, _%_}
 use Rattle.kinds.specs.Bits.{bytes}
 use Rattle.kinds.specs.Nibbles.{value}
-use Rattle.am824.specs.declared.unit.Marker.{Marker}
-use Rattle.am824.specs.declared.unit.Marker.the-variants.{Second, First, Start}
-use Rattle.am824.specs.declared.unit.Am824Unit.{Am824Unit}
-use Rattle.am824.specs.declared.unit.Am824Unit.the-variants.{Subframe, Raw24, Raw20, Raw16, Midi0, Midi1, Midi2, Midi3}
+use Rattle.quadlets.specs.declared.unit.Marker.{Marker}
+use Rattle.quadlets.specs.declared.unit.Marker.the-variants.{Second, First, Start}
+use Rattle.quadlets.specs.declared.unit.Am824Unit.{Am824Unit}
+use Rattle.quadlets.specs.declared.unit.Am824Unit.the-variants.{Subframe, Raw24, Raw20, Raw16, Midi0, Midi1, Midi2, Midi3}
 
 -- the upper half of a subframe's label
 abbrev pub marked : Marker → ℕ

@@ -10,9 +10,9 @@ use Rattle.faults.specs.declared.units.UnitFault.{UnitFault}
 use Rattle.faults.specs.Units.{label, padding, unused}
 use Rattle.kinds.specs.Bits.{fromBytes}
 use Rattle.kinds.specs.Nibbles.{low}
-use Rattle.am824.specs.declared.unit.Marker.the-variants.{Second, First, Start}
-use Rattle.am824.specs.declared.unit.Am824Unit.{Am824Unit}
-use Rattle.am824.specs.declared.unit.Am824Unit.the-variants.{Subframe, Raw24, Raw20, Raw16, Midi0, Midi1, Midi2, Midi3}
+use Rattle.quadlets.specs.declared.unit.Marker.the-variants.{Second, First, Start}
+use Rattle.quadlets.specs.declared.unit.Am824Unit.{Am824Unit}
+use Rattle.quadlets.specs.declared.unit.Am824Unit.the-variants.{Subframe, Raw24, Raw20, Raw16, Midi0, Midi1, Midi2, Midi3}
 
 abbrev pub within : ℕ → ℕ → ℕ → Bool
 within first last n = leb first n && leb n last

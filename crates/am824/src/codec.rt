@@ -4,12 +4,12 @@ ghost use Prim.Native.Nat.{_+_, _*_};
 ghost use Rattle.am824.specs.Reading.{quadlet};
 ghost use Rattle.faults.specs.Units.{unused as unusedAt};
 ghost use Rattle.kinds.specs.Nibbles.{low};
-use crate::unit::Am824Unit;
-use crate::unit::Marker;
 use faults::UnitCause;
 use faults::UnitFault;
 use kinds::Bits24;
 use kinds::Nibble;
+use quadlets::Am824Unit;
+use quadlets::Marker;
 
 /// The upper half of the label that a marker makes.
 fn marked(marker: Marker) -> u8

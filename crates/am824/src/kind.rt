@@ -2,9 +2,9 @@ ghost use Rattle.am824.specs.Codes.{code as codeOf};
 ghost use Rattle.am824.specs.Reading.{heard as heardOf};
 use crate::codec::decode;
 use crate::codec::encode;
-use crate::unit::Am824Unit;
 use faults::UnitFault;
 use kinds::Kind;
+use quadlets::Am824Unit;
 
 /// The kind of AM824 units.
 #[derive(Clone, Copy)]

@@ -8,8 +8,8 @@ use Rattle.std.specs.declared.result.Result.the-variants.{Ok, Err}
 use Rattle.faults.specs.declared.units.UnitFault.{UnitFault}
 use Rattle.faults.specs.Refusals.{refused}
 use Rattle.faults.specs.Units.{told}
-use Rattle.am824.specs.declared.unit.Am824Unit.{Am824Unit}
-use Rattle.am824.specs.Samples.{rawOf}
+use Rattle.quadlets.specs.declared.unit.Am824Unit.{Am824Unit}
+use Rattle.samples.specs.Samples.{rawOf}
 use Rattle.pack.specs.declared.unit.PackUnit.{PackUnit}
 use Rattle.pack.specs.Codes.{code}
 

@@ -4,7 +4,6 @@ ghost use Rattle.am824.specs.Reading.{heard};
 ghost use Rattle.examples.specs.Carrying.{inPacket, inRecord};
 use am824::Am824;
 use am824::Am824Kind;
-use am824::Am824Unit;
 use faults::Locate;
 use faults::PacketFault;
 use faults::PacketFromUnit;
@@ -14,6 +13,7 @@ use faults::RecordPosition;
 use faults::ResultLocate;
 use faults::UnitPosition;
 use kinds::Kind;
+use quadlets::Am824Unit;
 
 /// A unit read at a position of a packet: its fault becomes the packet's.
 pub fn read_in_packet(bytes: &[u8], position: UnitPosition) -> Result<Am824Unit, PacketFault>

@@ -1,12 +1,12 @@
 ghost use Rattle.examples.specs.Units.{Minus-sixteen, Padding-refused, Midi-byte-refused, Label-refused, Four-packed};
 use am824::Am824;
 use am824::Am824Kind;
-use am824::Am824Unit;
 use faults::UnitFault;
 use kinds::Kind;
 use pack::Pack;
 use pack::PackKind;
 use pack::PackUnit;
+use quadlets::Am824Unit;
 
 /// 41 FF FF F0 is a sample of 20 bits, -16.
 pub fn minus_sixteen_in_twenty_bits() -> Result<Am824Unit, UnitFault>

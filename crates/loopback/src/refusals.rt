@@ -1,10 +1,11 @@
 use am824::Am824;
 use am824::Am824Kind;
-use am824::Am824Unit;
-use am824::Am824UnitDisplay;
 use faults::RefusalDisplay;
 use faults::UnitFault;
 use kinds::Kind;
+use quadlets::Am824Unit;
+use quadlets::Am824UnitDisplay;
+use samples::raw;
 use std::error::AnyError;
 use texts::hex;
 
@@ -41,5 +42,5 @@ pub fn show(rt: &LibcRuntime) -> Result<(), AnyError> {
     show_read(rt, &[0x43, 0, 0, 0])?;
     show_read(rt, &[0x41, 0xff, 0xff, 0xf8])?;
     show_read(rt, &[0x81, 0x90, 0x3c, 0])?;
-    show_answer(rt, " 8388608 in 24 bits", Am824Unit::raw(0, 8_388_608))
+    show_answer(rt, " 8388608 in 24 bits", raw(0, 8_388_608))
 }

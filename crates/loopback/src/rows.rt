@@ -1,7 +1,5 @@
 use am824::Am824;
 use am824::Am824Kind;
-use am824::Am824Unit;
-use am824::Am824UnitDisplay;
 use faults::RefusalDebug;
 use faults::RefusalDisplay;
 use faults::RefusalError;
@@ -11,6 +9,11 @@ use pack::Pack;
 use pack::PackKind;
 use pack::PackUnit;
 use pack::PackUnitDisplay;
+use quadlets::Am824Unit;
+use quadlets::Am824UnitDisplay;
+use samples::midi;
+use samples::raw;
+use samples::subframe;
 use std::error::AnyError;
 use std::fmt::Display;
 use texts::hex;
@@ -20,16 +23,16 @@ use units::write_row;
 /// A unit of each case of AM824, from bare numbers.
 fn am824_units() -> Result<[Am824Unit; 10], UnitFault> {
     Ok([
-        Am824Unit::subframe(0, 15, 0x12_3456)?,
-        Am824Unit::subframe(1, 0, 0xff_ffff)?,
-        Am824Unit::subframe(3, 10, 0)?,
-        Am824Unit::raw(0, -1)?,
-        Am824Unit::raw(1, -16)?,
-        Am824Unit::raw(2, 8_388_352)?,
-        Am824Unit::midi(0, 0, 0, 0)?,
-        Am824Unit::midi(1, 0xf8, 0, 0)?,
-        Am824Unit::midi(2, 0xc0, 7, 0)?,
-        Am824Unit::midi(3, 0x90, 60, 100)?,
+        subframe(0, 15, 0x12_3456)?,
+        subframe(1, 0, 0xff_ffff)?,
+        subframe(3, 10, 0)?,
+        raw(0, -1)?,
+        raw(1, -16)?,
+        raw(2, 8_388_352)?,
+        midi(0, 0, 0, 0)?,
+        midi(1, 0xf8, 0, 0)?,
+        midi(2, 0xc0, 7, 0)?,
+        midi(3, 0x90, 60, 100)?,
     ])
 }
 

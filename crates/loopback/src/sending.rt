@@ -1,6 +1,5 @@
 use am824::Am824;
 use am824::Am824Kind;
-use am824::Am824Unit;
 use faults::RefusalDebug;
 use faults::RefusalDisplay;
 use faults::RefusalError;
@@ -11,6 +10,7 @@ use plans::NonBlocking;
 use plans::NonBlockingMethod;
 use plans::Plan;
 use plans::default_delay;
+use samples::raw;
 use std::error::AnyError;
 use talkers::Score;
 use talkers::Talker;
@@ -33,7 +33,7 @@ fn send_all<M: Method + Drop>(rt: &LibcRuntime, method: M, delay: u32) -> Result
         Ok(talker) => talker,
         Err(fault) => return Err(fault.refusal().into()),
     };
-    let silence = match Am824Unit::raw(0, 0) {
+    let silence = match raw(0, 0) {
         Ok(unit) => unit,
         Err(fault) => return Err(fault.refusal().into()),
     };

@@ -3,12 +3,23 @@ ghost use mathlib.Core.Path.{_≡_};
 ghost use Prim.Native.Nat.{_*_, _≤_};
 ghost use lib.ListN.{length, drop};
 ghost use Rattle.std.specs.declared.result.Result.the-variants.{Ok};
+ghost use Rattle.units.specs.Faults.{located as atIndex};
 ghost use Rattle.units.specs.Rows.{row, whether, rowAnswer, rowLeft};
 use crate::fault::RowFault;
 use crate::fault::RowFromUnit;
 use faults::Located;
 use faults::UnitFault;
 use kinds::Kind;
+
+/// The fault of the unit at an index.
+fn refused(index: usize, fault: UnitFault) -> Located<usize, UnitFault>
+    ensures { λ r. ⌜ r ≡ atIndex index fault ⌝ }
+{
+    Located {
+        position: index,
+        fault,
+    }
+}
 
 /// Whether the first `count` units of `bytes` are units; else the first that is refused.
 pub fn check_row<K: Kind>(bytes: &[u8], count: usize) -> Result<(), Located<usize, UnitFault>>
@@ -18,7 +29,7 @@ pub fn check_row<K: Kind>(bytes: &[u8], count: usize) -> Result<(), Located<usiz
     let mut at = 0;
     for i in 0..count {
         if let Err(fault) = K::read(&bytes[at..]) {
-            return Err(Located { position: i, fault });
+            return Err(refused(i, fault));
         }
         at += step;
     }

@@ -1,7 +1,8 @@
-use mathlib.Core.Path.{ap, sym, subst}
+use mathlib.Core.Path.{ap, sym, subst, _∙_}
 use mathlib.Core.List.{[], _∷_, _++_}
 use Prim.Native.Nat.{_+_, _*_}
 use native.Mathlib.Omega.{arith}
+use Rattle.std.specs.declared.result.Result.the-variants.{Err}
 use Rattle.units.specs.Rows.{whether}
 use Rattle.units.proofs.Rows.{Reached, reached-none, reached-more, reached-refused, reached-all}
 use Rattle.units.proofs.reading.check_row.Needs as need
@@ -12,7 +13,7 @@ loop-i-holds g c = ([], reached-none _ (g .K·Kind .heard) _ _)
 pub returns-in-Err : need.returns-in-Err
 returns-in-Err g c =
     let r = c .loop-i .inv in
-    ap whether (sym (reached-refused _ (g .K·Kind .heard) _ _ _ _ (r .0) _ (r .1) (c .loop-i-test .taken) (c .in-Err .ensures tt)))
+    ap (λ f. Err f) (c .refused .ensures) ∙ ap whether (sym (reached-refused _ (g .K·Kind .heard) _ _ _ _ (r .0) _ (r .1) (c .loop-i-test .taken) (c .in-Err .ensures tt)))
 
 pub loop-i-again : need.loop-i-again
 loop-i-again g c =

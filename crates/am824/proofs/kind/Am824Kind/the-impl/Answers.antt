@@ -2,7 +2,7 @@ use mathlib.Core.Path.{_≡_, refl, ap, subst, _∙_}
 use Prim.Native.Nat.{_+_, _*_, _/_, _%_}
 use lib.ListN.{getD}
 use Rattle.std.specs.declared.result.Result.the-variants.{Ok}
-use Rattle.am824.specs.declared.unit.Am824Unit.the-variants.{Subframe, Raw24, Raw20, Raw16, Midi0, Midi1, Midi2, Midi3}
+use Rattle.quadlets.specs.declared.unit.Am824Unit.the-variants.{Subframe, Raw24, Raw20, Raw16, Midi0, Midi1, Midi2, Midi3}
 use Rattle.kinds.proofs.Quadlets.{four-bytes}
 use Rattle.am824.specs.Codes.{code}
 use Rattle.am824.specs.Reading.{heard}

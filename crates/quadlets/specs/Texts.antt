@@ -6,10 +6,10 @@ use Rattle.std.specs.Written.{decimal, signed}
 use Rattle.kinds.specs.declared.bits24.Bits24.{Bits24}
 use Rattle.kinds.specs.Bits.{field, number, fromField}
 use Rattle.kinds.specs.Nibbles.{value}
-use Rattle.am824.specs.declared.unit.Marker.{Marker}
-use Rattle.am824.specs.declared.unit.Marker.the-variants.{Second, First, Start}
-use Rattle.am824.specs.declared.unit.Am824Unit.{Am824Unit}
-use Rattle.am824.specs.declared.unit.Am824Unit.the-variants.{Subframe, Raw24, Raw20, Raw16, Midi0, Midi1, Midi2, Midi3}
+use Rattle.quadlets.specs.declared.unit.Marker.{Marker}
+use Rattle.quadlets.specs.declared.unit.Marker.the-variants.{Second, First, Start}
+use Rattle.quadlets.specs.declared.unit.Am824Unit.{Am824Unit}
+use Rattle.quadlets.specs.declared.unit.Am824Unit.the-variants.{Subframe, Raw24, Raw20, Raw16, Midi0, Midi1, Midi2, Midi3}
 
 abbrev pub markerText : Marker → List ℕ
 markerText Second = codes "second subframe"

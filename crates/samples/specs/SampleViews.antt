@@ -7,8 +7,8 @@ use Rattle.std.specs.declared.result.Result.{Result}
 use Rattle.std.specs.declared.result.Result.the-variants.{Ok, Err}
 use Rattle.faults.specs.declared.units.UnitFault.{UnitFault}
 use Rattle.faults.specs.Units.{field}
-use Rattle.am824.specs.declared.sample.Sample.{Sample}
-use Rattle.am824.specs.Samples.{noSample}
+use Rattle.samples.specs.declared.sample.Sample.{Sample}
+use Rattle.samples.specs.Samples.{noSample}
 
 abbrev pub plain : Sample → ℕ × ℤ
 plain s = (s .code, s .number)

@@ -14,9 +14,9 @@ use Rattle.std.specs.declared.option.Option.the-variants.{Some}
 use Rattle.kinds.specs.Bits.{number, twos, fromField}
 use Rattle.kinds.specs.Nibbles.{value, low}
 use Rattle.kinds.proofs.Nibbles.{value-low}
-use Rattle.am824.specs.declared.unit.Am824Unit.{Am824Unit}
+use Rattle.quadlets.specs.declared.unit.Am824Unit.{Am824Unit}
 use Rattle.am824.specs.Codes.{code as code-of}
-use Rattle.am824.specs.Samples.{paddings, noSample, rawField, rawBytes, rawOf}
+use Rattle.samples.specs.Samples.{paddings, noSample, rawField, rawBytes, rawOf}
 
 module _ (code : ℕ) (z : ℤ) (h : noSample code z ≡ false) (e : number (fromField (twos z)) ≡ z) where
   -- the pair, by a length code and a field that are the sample's

@@ -1,6 +1,6 @@
 use mathlib.Core.Path.{ap, sym}
-use Rattle.am824.specs.Texts.{markerText}
-use Rattle.am824.proofs.unit.Marker.name.Needs as need
+use Rattle.quadlets.specs.Texts.{markerText}
+use Rattle.quadlets.proofs.unit.Marker.name.Needs as need
 
 pub returns-in-Second : need.returns-in-Second
 returns-in-Second c = sym (ap markerText (c .in-Second .is))

@@ -1,10 +1,10 @@
 use mathlib.Core.Path.{_≡_, ap, _∙_}
 use borrow.Author.Needs.{needs}
 use Rattle.kinds.specs.Bits.{number, twos, fromField}
 use Rattle.am824.specs.Codes.{code}
-use Rattle.am824.specs.Samples.{rawField, rawOf}
-use Rattle.am824.proofs.Samples.{raw-back, raw-bytes}
-use Rattle.am824.proofs.sample.Sample.unit.Needs as need
+use Rattle.samples.specs.Samples.{rawField, rawOf}
+use Rattle.samples.proofs.Samples.{raw-back, raw-bytes}
+use Rattle.samples.proofs.sample.Sample.unit.Needs as need
 
 pub returns : need.returns
 returns c =

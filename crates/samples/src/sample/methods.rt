@@ -1,18 +1,18 @@
 ghost use mathlib.Core.Path.{_≡_};
 ghost use Rattle.std.specs.declared.option.Option.the-variants.{Some};
 ghost use Rattle.std.specs.Options.{Cases as BySome, mapped};
 ghost use Rattle.am824.specs.Codes.{code as codeOf};
-ghost use Rattle.am824.specs.SampleViews.{plain, Sampled};
-ghost use Rattle.am824.specs.Samples.{paddings, rawField, rawUnit, rawBytes, rawOf};
+ghost use Rattle.samples.specs.SampleViews.{plain, Sampled};
+ghost use Rattle.samples.specs.Samples.{paddings, rawField, rawUnit, rawBytes, rawOf};
 ghost use mathlib.Core.Bool.{false};
 ghost use Prim.Native.Nat.{_+_, _*_, _%_, _<_};
 ghost use Rattle.kinds.specs.Bits.{outside, twos, fromField, number as numberOf};
 ghost use lib.Dec.{eqb};
 use crate::sample::Sample;
-use crate::unit::Am824Unit;
 use faults::UnitFault;
 use kinds::Bits24;
 use kinds::Nibble;
+use quadlets::Am824Unit;
 
 /// Whether the padding bits of a length code are zero.
 fn clear(code: u8, bits: Bits24) -> bool

@@ -9,8 +9,8 @@ use Rattle.std.specs.declared.result.Result.the-variants.{Ok, Err}
 use Rattle.faults.specs.declared.units.UnitFault.{UnitFault}
 use Rattle.faults.specs.Units.{field}
 use Rattle.kinds.specs.Bits.{fieldBytes}
-use Rattle.am824.specs.declared.unit.Am824Unit.{Am824Unit}
+use Rattle.quadlets.specs.declared.unit.Am824Unit.{Am824Unit}
 use Rattle.am824.specs.Codes.{code}
 
 -- refused where there is no such unit, else the one unit that has these bytes
 abbrev pub Made : Bool → List ℕ → Result Am824Unit UnitFault → Type 0

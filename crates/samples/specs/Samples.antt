@@ -8,8 +8,8 @@ use Rattle.std.specs.declared.option.Option.{Option}
 use Rattle.std.specs.declared.option.Option.the-variants.{Some, None}
 use Rattle.kinds.specs.Bits.{number, twos, outside, fromField, fieldBytes}
 use Rattle.kinds.specs.Nibbles.{value, low}
-use Rattle.am824.specs.declared.unit.Am824Unit.{Am824Unit}
-use Rattle.am824.specs.declared.unit.Am824Unit.the-variants.{Subframe, Raw24, Raw20, Raw16, Midi0, Midi1, Midi2, Midi3}
+use Rattle.quadlets.specs.declared.unit.Am824Unit.{Am824Unit}
+use Rattle.quadlets.specs.declared.unit.Am824Unit.the-variants.{Subframe, Raw24, Raw20, Raw16, Midi0, Midi1, Midi2, Midi3}
 
 -- how many values the padding bits have: none, 4 or 8 bits for the codes 0, 1 and 2
 abbrev pub paddings : ℕ → ℕ

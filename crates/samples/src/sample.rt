@@ -1,6 +1,6 @@
 ghost use mathlib.Core.Bool.{false};
 ghost use mathlib.Core.Path.{_≡_};
-ghost use Rattle.am824.specs.Samples.{noSample};
+ghost use Rattle.samples.specs.Samples.{noSample};
 
 mod methods;
 

@@ -1,7 +1,7 @@
 ghost use mathlib.Core.Path.{_≡_};
 ghost use Rattle.std.specs.declared.option.Option.the-variants.{Some};
 ghost use Rattle.std.specs.Written.{Prints};
-ghost use Rattle.am824.specs.Texts.{markerText, sampleText, text};
+ghost use Rattle.quadlets.specs.Texts.{markerText, sampleText, text};
 use crate::unit::Am824Unit;
 use crate::unit::Marker;
 use kinds::Bits24;

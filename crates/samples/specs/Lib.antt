@@ -1,0 +1,3 @@
+pub mod Makings
+pub mod SampleViews
+pub mod Samples
