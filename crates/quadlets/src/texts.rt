@@ -10,7 +10,7 @@ use std::fmt;
 
 impl Marker {
     /// The marker in words.
-    pub fn name(self) -> &'static str
+    fn name(self) -> &'static str
         ensures { λ r. ⌜ now r ≡ markerText self ⌝ }
     {
         match self {
