@@ -95,3 +95,13 @@ row-joined n heard code long back (u ∷ us) rest =
     let d : drop n bs ≡ joined code us ++ rest = ap (drop n) a ∙ drop-at (code u) (joined code us ++ rest) n (long u) in
     let first : readFront n heard bs ≡ Ok u = cond-false _ _ _ there ∙ ap heard t ∙ back u in
     (λ i. before (first i) (row n heard (length us) (d i))) ∙ ap (before (Ok u)) (row-joined n heard code long back us rest)
+
+-- the refused one is among them
+refused-first : {U : Type 0} (count : ℕ) (a : Result U UnitFault) (b : Result (List U) (Located ℕ UnitFault)) (at : Located ℕ UnitFault) → ((k : Located ℕ UnitFault) → b ≡ Err k → k .position < count) → before a b ≡ Err at → at .position < suc count
+refused-first count (Ok u) (Ok us) at h e = let z : _≡_ {A = ℕ} 0 1 = cc in absurd (omega arith)
+refused-first count (Ok u) (Err k) at h e = let d : k .position + 1 ≡ at .position = cc in omega (arith, h k refl)
+refused-first count (Err f) b at h e = let d : 0 ≡ at .position = cc in omega arith
+
+pub row-inside : {U : Type 0} (n : ℕ) (heard : List ℕ → Result U UnitFault) (count : ℕ) (bs : List ℕ) (at : Located ℕ UnitFault) → row n heard count bs ≡ Err at → at .position < count
+row-inside n heard zero bs at e = let z : _≡_ {A = ℕ} 0 1 = cc in absurd (omega arith)
+row-inside n heard (suc count) bs at e = refused-first count (readFront n heard bs) (row n heard count (drop n bs)) at (row-inside n heard count (drop n bs)) e
