@@ -34,7 +34,7 @@ impl<K: Kind> Listener<K> {
 
     /// Hears a packet in a cycle: names what is missing before it, numbers its blocks, and writes
     /// their units to the front of `list`; a refusal changes nothing.
-    pub(crate) fn hear(
+    pub fn hear(
         &mut self,
         cycle: u32,
         packet: &[u8],
