@@ -4,5 +4,4 @@ pub mod Law
 pub mod Lists
 pub mod One
 pub mod Packets
-pub mod Steps
 pub mod Trip

@@ -1,8 +1,9 @@
 ghost use mathlib.Core.Path.{_≡_};
-ghost use Rattle.talkers.specs.Views.{desk};
+ghost use Rattle.plans.specs.Streams.{stream};
+ghost use Rattle.talkers.specs.Views.{desk, scoreOf};
 ghost use Rattle.streams.specs.declared.relay.RelayFault.the-variants.{Send as SendCase, Hear as HearCase};
 ghost use Rattle.streams.specs.Making.{three};
-ghost use Rattle.streams.specs.Relays.{Goes-on};
+ghost use Rattle.streams.specs.Relays.{Relays, Same-makings};
 use crate::trio::Trio;
 use faults::PacketFault;
 use kinds::Kind;
@@ -35,8 +36,8 @@ pub impl From<PacketFault> for RelayFault as RelayFromPacket {
 }
 
 impl<K: Kind, M: Method> Trio<K, M> {
-    /// The talker sends, and the first listener hears what was sent: whatever run led here goes on
-    /// by these calls.
+    /// The talker sends, and the first listener hears what was sent: the steps by which a run goes
+    /// on.
     pub fn relay(
         &mut self,
         score: Score<'_, K::Unit>,
@@ -44,11 +45,12 @@ impl<K: Kind, M: Method> Trio<K, M> {
         bytes: &mut [u8],
         list: &mut [K::Unit],
     ) -> Result<Heard, RelayFault>
-        ensures { λ _. ⌜ (now (self .entry) .first .plan ≡ now (self .entry) .talker .plan → Goes-on (desk size code heard takes (now (self .entry) .talker)) (three (now (self .entry))) (three (now (self .exit)))) ⌝ }
+        ensures relays { λ r. ⌜ Relays (desk size code heard takes (now (self .entry) .talker)) (stream size code heard (now (self .entry) .first .plan)) (scoreOf (now (score .entry .arrivals)) (now (score .entry .units))) cycle (now (bytes .entry)) (now (bytes .exit)) (now (list .entry)) (now (list .exit)) (three (now (self .entry))) (three (now (self .exit))) r ⌝ }
+        ensures same { λ _. ⌜ Same-makings (now (self .entry)) (now (self .exit)) ⌝ }
     {
         let sent = self.talker.send(score, cycle, bytes)?;
         let heard = self.first
-            .hear(cycle, &bytes[0..sent.length as usize], list)?;
+            .hear(cycle, &bytes[..sent.length as usize], list)?;
         Ok(heard)
     }
 }

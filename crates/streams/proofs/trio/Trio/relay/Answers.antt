@@ -1,38 +1,40 @@
-use mathlib.Core.Path.{ap}
-use Rattle.plans.specs.declared.plan.Plan.{Plan}
-use Rattle.plans.specs.Streams.{stream}
-use Rattle.talkers.specs.Views.{desk, state as talkerState}
-use Rattle.listeners.specs.Views.{state as listenerState}
-use Rattle.streams.proofs.Steps.{sends-on, hears-on}
+use mathlib.Core.Path.{refl}
+use Rattle.std.proofs.shelf.Results.{err-from-errBy}
+use Rattle.talkers.specs.Views.{state}
 use Rattle.streams.specs.Making.{three}
-use Rattle.streams.specs.Runs.{Three}
 use Rattle.streams.proofs.trio.Trio.relay.Needs as need
 
 pub returns-in-Break-sent : need.returns-in-Break-sent
-returns-in-Break-sent g c same cs r =
-    let k = g .K·Kind in
-    let trio = c .args .self .now in
-    let d = desk (k .size) (k .code) (k .heard) (g .M·Method .takes) (trio .talker) in
-    sends-on d (three trio) (c .args .cycle) (c .send .result) (talkerState (c .send .last .self)) (c .send .ensures .sends) cs r
+returns-in-Break-sent g c =
+    let p = err-from-errBy (c .from-residual .result) (c .from-residual .ensures .1) in
+    rw (p .1, p .2) (record {
+      relays = record { sending = (c .in-Break-sent .ensures tt .sends, refl, refl); list-left = refl };
+      same = record { talker = c .send .ensures .same; first-plan = refl; second = refl };
+    })
 
 pub returns-in-Break-heard : need.returns-in-Break-heard
-returns-in-Break-heard g c same cs r =
-    let k = g .K·Kind in
-    let trio = c .args .self .now in
-    let d = desk (k .size) (k .code) (k .heard) (g .M·Method .takes) (trio .talker) in
-    let t = talkerState (c .send .last .self) in
-    let mid : Three = record { talker = t; listener1 = three trio .listener1; listener2 = three trio .listener2 } in
-    let one = sends-on d (three trio) (c .args .cycle) (c .send .result) t (c .send .ensures .sends) cs r in
-    let plan-same = ap (λ (p : Plan (g .K .Denot) (g .K·Unit .Denot)). stream (k .size) (k .code) (k .heard) p) same in
-    hears-on d mid (c .args .cycle) plan-same (c .hear .result) (listenerState (c .hear .last .self)) (c .hear .ensures .hears) (one .0) (one .1)
+returns-in-Break-heard g c =
+    let v = three (c .args .self .now) in
+    let p = err-from-errBy (c .from-residual-in-Break-heard .result) (c .from-residual-in-Break-heard .ensures .1) in
+    rw (p .1, p .2) (record {
+      relays = record {
+        sent = c .in-Continue-sent .sent;
+        between = record { talker = state (c .send .last .self); listener1 = v .listener1; listener2 = v .listener2 };
+        sending = (c .in-Continue-sent .ensures tt .sends, refl, refl);
+        hearing = (c .in-Break-heard .ensures tt .hears, refl, refl);
+      };
+      same = record { talker = c .send .ensures .same; first-plan = c .hear .ensures .same; second = refl };
+    })
 
 pub returns : need.returns
-returns g c same cs r =
-    let k = g .K·Kind in
-    let trio = c .args .self .now in
-    let d = desk (k .size) (k .code) (k .heard) (g .M·Method .takes) (trio .talker) in
-    let t = talkerState (c .send .last .self) in
-    let mid : Three = record { talker = t; listener1 = three trio .listener1; listener2 = three trio .listener2 } in
-    let one = sends-on d (three trio) (c .args .cycle) (c .send .result) t (c .send .ensures .sends) cs r in
-    let plan-same = ap (λ (p : Plan (g .K .Denot) (g .K·Unit .Denot)). stream (k .size) (k .code) (k .heard) p) same in
-    hears-on d mid (c .args .cycle) plan-same (c .hear .result) (listenerState (c .hear .last .self)) (c .hear .ensures .hears) (one .0) (one .1)
+returns g c =
+    let v = three (c .args .self .now) in
+    record {
+      relays = λ which. record {
+        sent = c .in-Continue-sent .sent;
+        between = record { talker = state (c .send .last .self); listener1 = v .listener1; listener2 = v .listener2 };
+        sending = (c .in-Continue-sent .ensures tt .sends, refl, refl);
+        hearing = (c .in-Continue-heard .ensures tt .hears, refl, refl);
+      };
+      same = record { talker = c .send .ensures .same; first-plan = c .hear .ensures .same; second = refl };
+    }
