@@ -1,4 +1,7 @@
-use am824::Am824;
+use crate::worked::ARRIVALS;
+use crate::worked::delay;
+use crate::worked::plan;
+use crate::worked::silence;
 use am824::Am824Kind;
 use faults::RefusalDebug;
 use faults::RefusalDisplay;
@@ -8,24 +11,10 @@ use plans::BlockingMethod;
 use plans::Method;
 use plans::NonBlocking;
 use plans::NonBlockingMethod;
-use plans::Plan;
-use plans::default_delay;
-use samples::raw;
 use std::error::AnyError;
 use talkers::Score;
 use talkers::Talker;
 use texts::hex;
-
-/// The ticks at which the blocks of the score arrive.
-const ARRIVALS: [u64; 10] = [0, 512, 1024, 1536, 2048, 2560, 3072, 3584, 4096, 4608];
-
-/// AM824 at 48 kHz, two units a block.
-fn plan() -> Result<Plan<Am824>, AnyError> {
-    match Plan::new(2, 2) {
-        Ok(plan) => Ok(plan),
-        Err(fault) => Err(fault.refusal().into()),
-    }
-}
 
 /// Sends the score in cycles 1 to 3 and prints each packet.
 fn send_all<M: Method + Drop>(rt: &LibcRuntime, method: M, delay: u32) -> Result<(), AnyError> {
@@ -33,11 +22,7 @@ fn send_all<M: Method + Drop>(rt: &LibcRuntime, method: M, delay: u32) -> Result
         Ok(talker) => talker,
         Err(fault) => return Err(fault.refusal().into()),
     };
-    let silence = match raw(0, 0) {
-        Ok(unit) => unit,
-        Err(fault) => return Err(fault.refusal().into()),
-    };
-    let units = [silence; 20];
+    let units = [silence()?; 20];
     for cycle in 1..4u32 {
         let mut bytes = [0; 72];
         let score = Score {
@@ -62,14 +47,6 @@ fn send_all<M: Method + Drop>(rt: &LibcRuntime, method: M, delay: u32) -> Result
         }
     }
     Ok(())
-}
-
-/// The default delay at 48 kHz.
-fn delay(blocking: bool) -> Result<u32, AnyError> {
-    match default_delay(2, blocking) {
-        Ok(delay) => Ok(delay as u32),
-        Err(fault) => Err(fault.refusal().into()),
-    }
 }
 
 pub fn show(rt: &LibcRuntime) -> Result<(), AnyError> {

@@ -1,3 +1,4 @@
+pub mod Faults
 pub mod Laws
 pub mod Making
 pub mod Relays

@@ -11,8 +11,8 @@ use Rattle.talkers.specs.declared.sent.Sent.{Sent}
 use Rattle.talkers.specs.Sending.{Desk, Score}
 use Rattle.talkers.specs.Views.{Same-desk}
 use Rattle.listeners.specs.declared.heard.Heard.{Heard}
-use Rattle.streams.specs.declared.relay.RelayFault.{RelayFault}
-use Rattle.streams.specs.declared.relay.RelayFault.the-variants.{Send, Hear}
+use Rattle.streams.specs.declared.fault.RelayFault.{RelayFault}
+use Rattle.streams.specs.declared.fault.RelayFault.the-variants.{Send, Hear}
 use Rattle.streams.specs.declared.trio.Trio.{Trio}
 use Rattle.streams.specs.Runs.{Three, Call, sends, send-refused, hears, hear-refused, first, Step}
 

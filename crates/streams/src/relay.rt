@@ -1,39 +1,16 @@
 ghost use mathlib.Core.Path.{_≡_};
 ghost use Rattle.plans.specs.Streams.{stream};
 ghost use Rattle.talkers.specs.Views.{desk, scoreOf};
-ghost use Rattle.streams.specs.declared.relay.RelayFault.the-variants.{Send as SendCase, Hear as HearCase};
 ghost use Rattle.streams.specs.Making.{three};
 ghost use Rattle.streams.specs.Relays.{Relays, Same-makings};
+use crate::fault::RelayFault;
+use crate::fault::RelayFromPacket;
+use crate::fault::RelayFromSend;
 use crate::trio::Trio;
-use faults::PacketFault;
 use kinds::Kind;
 use listeners::Heard;
 use plans::Method;
 use talkers::Score;
-use talkers::SendFault;
-
-/// Why a relay came to nothing: nothing was sent, or what was sent was not heard.
-#[derive(Clone, Copy)]
-pub enum RelayFault {
-    Send(SendFault),
-    Hear(PacketFault),
-}
-
-pub impl From<SendFault> for RelayFault as RelayFromSend {
-    ghost converts = { λ fault r. r ≡ SendCase fault };
-
-    fn from(fault: SendFault) -> RelayFault {
-        RelayFault::Send(fault)
-    }
-}
-
-pub impl From<PacketFault> for RelayFault as RelayFromPacket {
-    ghost converts = { λ fault r. r ≡ HearCase fault };
-
-    fn from(fault: PacketFault) -> RelayFault {
-        RelayFault::Hear(fault)
-    }
-}
 
 impl<K: Kind, M: Method> Trio<K, M> {
     /// The talker sends, and the first listener hears what was sent: the steps by which a run goes
