@@ -32,8 +32,8 @@ impl<K: Kind> Listener<K> {
         })
     }
 
-    /// Hears a packet in a cycle: names what is missing before it, numbers its blocks, and writes
-    /// their units to the front of `list`; a refusal changes nothing.
+    /// Hears a packet in a cycle: tells the gap before it and the numbers of its blocks, whose units
+    /// go to the front of `list`; a refusal changes nothing.
     pub fn hear(
         &mut self,
         cycle: u32,
