@@ -38,15 +38,6 @@ module _ {U : Type 0} (s : Stream U) (packet : List ℕ) (e : refusal s packet �
       cond-both (idle packet) _ _ (λ n. 8 + blockBytes s * n ≤ length packet) (λ _. omega (arith, mul-zero (blockBytes s), sorted-long s packet e)) (λ _. sorted-whole s packet e) in
       omega (arith, mul-assoc (4 * s .size) (s .dimension) (count s packet))
 
--- an answer tells its refusal
-pub was-ok : {T : Type 0} (o : Option PacketFault) (x y : T) → Ok y ≡ answered o x → (o ≡ None) × (y ≡ x)
-was-ok None x y e = (refl, cc)
-was-ok (Some f) x y e = let z : _≡_ {A = ℕ} 0 1 = cc in absurd (omega arith)
-
-pub was-err : {T : Type 0} (o : Option PacketFault) (x : T) (f : PacketFault) → Err f ≡ answered o x → o ≡ Some f
-was-err None x f e = let z : _≡_ {A = ℕ} 0 1 = cc in absurd (omega arith)
-was-err (Some g) x f e = cc
-
 -- both tests of a weighing passed
 pub weighed : (b : Bool) (x : PacketFault) (o : Option PacketFault) → cond b (Some x) o ≡ None → (b ≡ false) × (o ≡ None)
 weighed true x o e = let z : _≡_ {A = ℕ} 0 1 = cc in absurd (omega arith)

@@ -18,6 +18,7 @@ use Rattle.faults.specs.declared.located.Located.{Located}
 use Rattle.faults.specs.declared.packets.PacketFault.{PacketFault}
 use Rattle.faults.specs.declared.units.UnitFault.{UnitFault}
 use Rattle.faults.specs.Outcomes.{answered, changed}
+use Rattle.faults.proofs.Outcomes.{was-ok, was-err}
 use Rattle.packets.specs.Headers.{headerBytes}
 use Rattle.packets.specs.Sorting.{dbcOf, refusal}
 use Rattle.plans.specs.Streams.{Stream, every, dbs, fdf, blockBytes}
@@ -50,15 +51,6 @@ Later c (Some l) = l < c
 later : (c : ℕ) (o : Option ℕ) → notLater c o ≡ false → Later c o
 later c None e = tt
 later c (Some l) e = leb-false c l e
-
--- an answer tells its refusal
-was-ok : {T E : Type 0} (o : Option E) (x y : T) → Ok y ≡ answered o x → (o ≡ None) × (y ≡ x)
-was-ok None x y e = (refl, cc)
-was-ok (Some f) x y e = let z : _≡_ {A = ℕ} 0 1 = cc in absurd (omega arith)
-
-was-err : {T E : Type 0} (o : Option E) (x : T) (f : E) → Err f ≡ answered o x → o ≡ Some f
-was-err None x f e = let z : _≡_ {A = ℕ} 0 1 = cc in absurd (omega arith)
-was-err (Some g) x f e = cc
 
 -- a chain of refusals that gives none
 cond-none : {X : Type 0} (b : Bool) (x : X) (o : Option X) → cond b (Some x) o ≡ None → (b ≡ false) × (o ≡ None)

@@ -8,13 +8,14 @@ use Rattle.std.specs.declared.option.Option.the-variants.{Some, None}
 use Rattle.std.specs.declared.result.Result.the-variants.{Ok}
 use Rattle.clock.specs.Cycles.{notLater}
 use Rattle.faults.specs.Outcomes.{changed}
+use Rattle.faults.proofs.Outcomes.{was-ok, was-err}
 use Rattle.packets.specs.Sorting.{refusal}
 use Rattle.packets.proofs.Sound.{sorted-short}
 use Rattle.plans.specs.Streams.{stream}
 use Rattle.units.specs.Rows.{row, over}
 use Rattle.listeners.specs.Hearing.{brought, weighRefusal, Hears}
 use Rattle.listeners.specs.Views.{state}
-use Rattle.listeners.proofs.Hearing.{cycles-before, count-few, count-whole, was-ok, was-err, weighed, not-weighed, as-read}
+use Rattle.listeners.proofs.Hearing.{cycles-before, count-few, count-whole, weighed, not-weighed, as-read}
 use Rattle.listeners.proofs.listener.Listener.hear.Needs as need
 
 pub returns-in-Break-heard : need.returns-in-Break-heard
