@@ -1,6 +1,6 @@
 -- A quadlet is a unit exactly where it is that unit's code.
 use mathlib.Core.Path.{_≡_, ap, sym, _∙_}
-use mathlib.Core.Bool.{false, cond, _&&_}
+use mathlib.Core.Bool.{false, _&&_}
 use mathlib.Core.List.{[], _∷_}
 use Prim.Native.Nat.{ℕ, _+_, _*_, _/_, _%_, _≤_, _<_}
 use native.Mathlib.Omega.{arith}
@@ -18,7 +18,7 @@ use Rattle.kinds.proofs.Nibbles.{value-most, value-low, low-value}
 use Rattle.quadlets.specs.declared.unit.Marker.{Marker}
 use Rattle.quadlets.specs.declared.unit.Marker.the-variants.{Second, First, Start}
 use Rattle.quadlets.specs.declared.unit.Am824Unit.{Am824Unit}
-use Rattle.quadlets.specs.declared.unit.Am824Unit.the-variants.{Subframe, Raw24, Raw20, Raw16, Midi0, Midi1, Midi2, Midi3}
+use Rattle.quadlets.specs.declared.unit.Am824Unit.the-variants.{Subframe, Raw20}
 use Rattle.am824.specs.Codes.{marked, code}
 use Rattle.am824.specs.Reading.{within, strange, padded, unit, quadlet}
 

@@ -2,9 +2,8 @@
 use mathlib.Core.List.{List, [], _∷_}
 use mathlib.Core.Path.{_≡_}
 use Prim.Native.Nat.{ℕ, min, _≤_}
-use lib.ListN.{length, take}
+use lib.ListN.{take}
 use Rattle.std.specs.declared.option.Option.the-variants.{Some, None}
-use Rattle.kinds.specs.declared.bits24.Bits24.{Bits24}
 use Rattle.quadlets.specs.declared.unit.Am824Unit.{Am824Unit}
 use Rattle.quadlets.specs.declared.unit.Am824Unit.the-variants.{Raw24}
 use Rattle.am824.specs.Codes.{code}

@@ -1,7 +1,7 @@
 -- What the worked units answer.
 use mathlib.Core.List.{[], _∷_}
 use mathlib.Core.Path.{_≡_}
-use lib.IntN.{pos, negsuc}
+use lib.IntN.{negsuc}
 use Rattle.std.specs.declared.option.Option.the-variants.{Some}
 use Rattle.std.specs.declared.result.Result.{Result}
 use Rattle.std.specs.declared.result.Result.the-variants.{Ok, Err}

@@ -1,10 +1,9 @@
 -- Four bits and their number determine each other.
-use mathlib.Core.Path.{_≡_, refl}
+use mathlib.Core.Path.{_≡_}
 use mathlib.Core.Bool.{Bool, true, false}
 use Prim.Native.Nat.{ℕ, _+_, _*_, _%_, _≤_}
 use native.Mathlib.Omega.{arith}
 use borrow.Author.Needs.{needs}
-use Rattle.std.proofs.shelf.Ways.{tells}
 use Rattle.kinds.specs.declared.nibble.Nibble.{Nibble}
 use Rattle.kinds.specs.Nibbles.{bit, value, low}
 

@@ -2,21 +2,20 @@
 use mathlib.Core.Path.{_≡_, refl, sym, ap, subst, _∙_}
 use mathlib.Core.Bool.{Bool, true, false, cond}
 use mathlib.Core.List.{List}
-use Prim.Native.Nat.{ℕ, _+_, _*_, _≤_, _<_}
+use Prim.Native.Nat.{ℕ, _+_, _*_, _≤_}
 use native.Mathlib.Nat.{mul-zero, mul-assoc}
 use native.Mathlib.Omega.{arith}
 use lib.ListN.{length, drop}
 use Rattle.std.proofs.shelf.Tests.{cond-both, leb-false}
 use Rattle.std.specs.declared.option.Option.{Option}
 use Rattle.std.specs.declared.option.Option.the-variants.{Some, None}
-use Rattle.std.specs.declared.result.Result.{Result}
-use Rattle.std.specs.declared.result.Result.the-variants.{Ok, Err}
+use Rattle.std.specs.declared.result.Result.the-variants.{Err}
 use Rattle.clock.specs.Cycles.{notLater}
 use Rattle.faults.specs.declared.packets.PacketFault.{PacketFault}
 use Rattle.faults.specs.Outcomes.{answered, changed}
-use Rattle.packets.specs.Sorting.{idle, blocks, refusal}
-use Rattle.packets.proofs.Sound.{sorted-long, sorted-short, sorted-few, sorted-whole}
-use Rattle.plans.specs.Streams.{Stream, every, blockBytes}
+use Rattle.packets.specs.Sorting.{idle, refusal}
+use Rattle.packets.proofs.Sound.{sorted-long, sorted-few, sorted-whole}
+use Rattle.plans.specs.Streams.{Stream, blockBytes}
 use Rattle.plans.proofs.Intervals.{interval-most}
 use Rattle.units.specs.Rows.{row, over}
 use Rattle.listeners.specs.declared.heard.Heard.{Heard}

@@ -1,6 +1,5 @@
 -- What holds at the intervals 8, 16 and 32.
-use mathlib.Core.Path.{_≡_}
-use Prim.Native.Nat.{ℕ, _+_, _*_, _%_, _<_, _≤_}
+use Prim.Native.Nat.{ℕ, _+_, _*_, _≤_}
 use native.Mathlib.Nat.{mul-assoc, mul-one}
 use native.Mathlib.Omega.{arith}
 use lib.Dec.{ltb}

@@ -4,7 +4,7 @@ use mathlib.Core.Bool.{false}
 use mathlib.Core.List.{[], _∷_}
 use Prim.Native.Nat.{ℕ, _+_, _*_, _/_, _%_}
 use native.Mathlib.Omega.{arith}
-use lib.Dec.{eqb, ltb}
+use lib.Dec.{eqb}
 use lib.IntN.{ℤ}
 use borrow.Author.Tests.{eqb-true}
 use Rattle.std.proofs.shelf.Tests.{cond-both}
@@ -16,7 +16,7 @@ use Rattle.kinds.specs.Nibbles.{value, low}
 use Rattle.kinds.proofs.Nibbles.{value-low}
 use Rattle.quadlets.specs.declared.unit.Am824Unit.{Am824Unit}
 use Rattle.am824.specs.Codes.{code as code-of}
-use Rattle.samples.specs.Samples.{paddings, noSample, rawField, rawBytes, rawOf}
+use Rattle.samples.specs.Samples.{noSample, rawField, rawBytes, rawOf}
 
 module _ (code : ℕ) (z : ℤ) (h : noSample code z ≡ false) (e : number (fromField (twos z)) ≡ z) where
   -- the pair, by a length code and a field that are the sample's

@@ -1,5 +1,5 @@
 -- What an accepted send and an accepted hearing are, part by part.
-use mathlib.Core.Path.{_≡_, refl, sym, ap, subst, _∙_}
+use mathlib.Core.Path.{_≡_, refl, sym, ap, _∙_}
 use mathlib.Core.Bool.{Bool, true, false, cond}
 use mathlib.Core.List.{List, _++_}
 use Prim.Native.Nat.{ℕ, _+_, _*_, _%_, _≤_, _<_}
@@ -17,19 +17,19 @@ use Rattle.clock.specs.Ticks.{start as tick}
 use Rattle.faults.specs.declared.located.Located.{Located}
 use Rattle.faults.specs.declared.packets.PacketFault.{PacketFault}
 use Rattle.faults.specs.declared.units.UnitFault.{UnitFault}
-use Rattle.faults.specs.Outcomes.{answered, changed}
+use Rattle.faults.specs.Outcomes.{changed}
 use Rattle.faults.proofs.Outcomes.{was-ok, was-err}
 use Rattle.packets.specs.Headers.{headerBytes}
 use Rattle.packets.specs.Sorting.{dbcOf, refusal}
 use Rattle.plans.specs.Streams.{Stream, every, dbs, fdf, blockBytes}
 use Rattle.talkers.specs.declared.fault.SendFault.{SendFault}
-use Rattle.talkers.specs.declared.fault.SendFault.the-variants.{Score as ScoreFault, Cycle as CycleFault, Room as RoomFault}
+use Rattle.talkers.specs.declared.fault.SendFault.the-variants.{Score as ScoreFault, Cycle as CycleFault}
 use Rattle.talkers.specs.declared.sent.Sent.{Sent}
 use Rattle.talkers.specs.Sending.{Desk, Score, State as Talker, due, sytFor, badScore, packetLength, sendRefusal, Sends}
-use Rattle.talkers.proofs.Sending.{Good, good}
-use Rattle.units.specs.Rows.{row, over}
+use Rattle.talkers.proofs.Sending.{good}
+use Rattle.units.specs.Rows.{over}
 use Rattle.listeners.specs.declared.heard.Heard.{Heard}
-use Rattle.listeners.specs.Hearing.{State as Listener, count, units, gapTo, time, brought, nextState, unitRefusal, listRefusal, weighRefusal, hearRefusal, orElse, Hears}
+use Rattle.listeners.specs.Hearing.{State as Listener, count, units, gapTo, time, nextState, unitRefusal, weighRefusal, hearRefusal, orElse, Hears}
 
 -- what a kind, a method and a plan keep, so far as runs need it
 pub record Desk-laws {U : Type 0} (d : Desk U) : Type 0 where

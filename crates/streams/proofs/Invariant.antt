@@ -1,22 +1,20 @@
 -- What holds of a listener, whichever packets it accepted so far.
-use mathlib.Core.Path.{_≡_, refl, sym, ap, ap₂, _∙_, subst, subst₂}
-use mathlib.Core.Bool.{Bool, true, false, cond}
+use mathlib.Core.Path.{_≡_, refl, sym, ap, ap₂, _∙_, subst}
+use mathlib.Core.Bool.{cond}
 use mathlib.Core.Logic.{_⊎_, inl, inr, ⊎-elim, _↔_, _≢_}
-use Prim.Native.Nat.{ℕ, zero, suc, _+_, _-_, _*_, _≤_, _<_}
-use native.Mathlib.Nat.{add-zero, add-assoc}
+use Prim.Native.Nat.{ℕ, zero, suc, _+_, _-_, _≤_, _<_}
+use native.Mathlib.Nat.{add-assoc}
 use native.Mathlib.Omega.{arith}
 use lib.Dec.{eqb}
-use Rattle.std.specs.shelf.Lists.{List, [], _∷_, _++_, length, take, drop, getD, map, All}
+use Rattle.std.specs.shelf.Lists.{List, [], _∷_, _++_, length, take, drop, map, All}
 use Rattle.std.specs.Iters.{counting}
-use Rattle.std.specs.declared.option.Option.{Option}
 use Rattle.std.specs.declared.option.Option.the-variants.{Some, None}
 use Rattle.std.proofs.shelf.Lists.{length-push, length-append, map-append}
 use Rattle.std.proofs.shelf.Counted.{length-counting, length-map-counting}
 use Rattle.std.proofs.shelf.Elements.{all-append, all-weaker}
-use Rattle.std.proofs.shelf.Tests.{cases-lt, cases-eq, cond-true, cond-false, eq-eqb, ne-eqb}
-use Rattle.clock.specs.Ticks.{start as tick}
-use Rattle.plans.specs.Streams.{Stream, every}
-use Rattle.talkers.specs.Sending.{Desk, Score, State as Talker, due}
+use Rattle.std.proofs.shelf.Tests.{cases-lt, cond-true, cond-false, eq-eqb, ne-eqb}
+use Rattle.plans.specs.Streams.{Stream}
+use Rattle.talkers.specs.Sending.{Desk, Score}
 use Rattle.listeners.specs.declared.heard.Heard.{Heard}
 use Rattle.listeners.specs.Hearing.{State as Listener}
 use Rattle.streams.specs.Runs.{Packet, packet-at, blocks, start, Block, block-heard, blocks-heard}
@@ -24,7 +22,7 @@ use Rattle.streams.specs.Laws.{times, Holds, time-due, Due-a-time, As-in-score
 use Rattle.streams.proofs.Lists.{times-append, times-in, times-out}
 use Rattle.streams.proofs.Accepted.{Desk-laws, Hear-accepted}
 use Rattle.streams.proofs.Trip.{Sent-well, Heard-well, heard-back, Block-right, blocks-back}
-use Rattle.streams.proofs.Packets.{start-more, start-rises, start-push, start-all, packet-push, packet-last, start-between, held-once}
+use Rattle.streams.proofs.Packets.{start-more, start-rises, start-push, packet-push, start-between, held-once}
 
 -- how often a number stands in a row of numbers
 pub row : (n a k : ℕ) → ((times n (counting a k) ≡ 1) × (a ≤ n) × (n < a + k)) ⊎ (((times n (counting a k) ≡ 0) × (n < a)) ⊎ ((times n (counting a k) ≡ 0) × (a + k ≤ n)))

@@ -1,33 +1,30 @@
 -- Every admitted list of calls keeps the law.
 use mathlib.Core.Path.{_≡_, refl, sym, ap, ap₂, _∙_, subst, subst₂}
-use mathlib.Core.Bool.{Bool, true, false, cond}
-use mathlib.Core.Logic.{_⊎_, inl, inr, ⊎-elim, _↔_, _≢_}
+use mathlib.Core.Bool.{cond}
+use mathlib.Core.Logic.{⊎-elim}
 use Prim.Native.Nat.{ℕ, zero, suc, _+_, _-_, _*_, _%_, _≤_, _<_}
 use native.Mathlib.Omega.{arith}
 use lib.Dec.{eqb, ltb}
-use Rattle.std.specs.shelf.Lists.{List, [], _∷_, _++_, length, take, drop, getD, map, All, Has, countBy}
+use Rattle.std.specs.shelf.Lists.{List, [], _∷_, _++_, length, take, drop, All, countBy}
 use Rattle.std.specs.Iters.{counting}
-use Rattle.std.specs.declared.option.Option.{Option}
 use Rattle.std.specs.declared.option.Option.the-variants.{Some, None}
 use Rattle.std.specs.declared.result.Result.the-variants.{Ok}
 use Rattle.std.proofs.shelf.Elements.{all-has}
 use Rattle.std.proofs.shelf.Sums.{countBy-le-length, sumBy-cons}
 use Rattle.std.proofs.shelf.Counted.{length-counting, map-counting-more}
 use Rattle.std.proofs.shelf.Lists.{map-id}
-use Rattle.std.proofs.shelf.Tests.{cases-lt, cases-eq, cond-true, cond-false, eq-eqb, ne-eqb, lt-ltb, le-ltb}
+use Rattle.std.proofs.shelf.Tests.{cases-lt, cases-eq, cond-false, ne-eqb, le-ltb}
 use Rattle.clock.specs.Ticks.{start as tick}
-use Rattle.plans.specs.Streams.{Stream, every}
-use Rattle.talkers.specs.Sending.{Desk, Score, State as Talker, due, Sends}
+use Rattle.plans.specs.Streams.{every}
+use Rattle.talkers.specs.Sending.{Desk, Score, State as Talker, Sends}
 use Rattle.listeners.specs.declared.heard.Heard.{Heard}
 use Rattle.listeners.specs.Hearing.{State as Listener}
-use Rattle.streams.specs.Runs.{Who, first, second, other, Call, sends, send-refused, hears, hear-refused, Calls, none-yet, _then_, Three, the, fresh, Packet, packet-at, blocks, start, Block, blocks-heard, packets, accepted, reached, end, named-missing, handed-out, Step, Admits, Admitted, Heard-in-order, Left-out, Run, made, goes-on}
-use Rattle.streams.specs.Laws.{times, lacking, numbers, Holds, time-due, Due-a-time, As-in-score, Handed-out-as-in-score, Alike-in-both, Handed-out-once, left-unsent, Left-blocks-come, Stream-law, Always, Law-from-the-making}
-use Rattle.faults.specs.declared.packets.PacketFault.{PacketFault}
+use Rattle.streams.specs.Runs.{Who, first, second, Call, sends, send-refused, hears, hear-refused, Calls, none-yet, _then_, Three, fresh, Packet, packet-at, blocks, start, Block, blocks-heard, packets, accepted, reached, named-missing, handed-out, Step, Admits, Admitted, Heard-in-order, Left-out, Run, made, goes-on}
+use Rattle.streams.specs.Laws.{times, lacking, numbers, Holds, time-due, Due-a-time, As-in-score, Handed-out-once, left-unsent, Left-blocks-come, Stream-law, Always, Law-from-the-making}
 use Rattle.plans.proofs.Intervals.{interval-least}
 use Rattle.streams.proofs.Accepted.{Desk-laws, Send-accepted, Hear-accepted, sent-accepted, heard-accepted, send-unchanged, hear-unchanged}
-use Rattle.streams.proofs.Trip.{Sent-well}
-use Rattle.streams.proofs.Packets.{Talks, talks-on, start-between, held-once, left-come}
-use Rattle.streams.proofs.Invariant.{Listens, listens-on, listens-more, none-named, number-of}
+use Rattle.streams.proofs.Packets.{Talks, talks-on, held-once, left-come}
+use Rattle.streams.proofs.Invariant.{Listens, listens-on, listens-more, none-named}
 
 -- those that are not among the first e are few
 lacking-few : (have : List ℕ) (e m : ℕ) → ((n : ℕ) → n < e → times n have ≡ 1) → (a k : ℕ) → a + k ≤ e + m → lacking have (counting a k) ≤ m

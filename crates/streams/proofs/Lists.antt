@@ -1,15 +1,14 @@
 -- Due blocks, and how often a number stands in a list.
-use mathlib.Core.Path.{_≡_, refl, sym, ap, ap₂, _∙_}
-use mathlib.Core.Bool.{Bool, true, false, cond}
+use mathlib.Core.Path.{_≡_, refl, sym, _∙_}
+use mathlib.Core.Bool.{true, cond}
 use mathlib.Core.Logic.{_⊎_, inl, inr, ⊎-elim, _≢_}
-use Prim.Native.Nat.{ℕ, zero, suc, _+_, _-_, _*_, _≤_, _<_}
+use Prim.Native.Nat.{ℕ, zero, suc, _+_, _≤_, _<_}
 use native.Mathlib.Omega.{arith}
 use lib.Dec.{eqb, leb}
-use Rattle.std.specs.shelf.Lists.{List, [], _∷_, _++_, length, take, drop, getD, map, joined, sumBy, countBy, leading, All}
+use Rattle.std.specs.shelf.Lists.{List, [], _∷_, _++_, length, getD, All}
 use Rattle.std.specs.Iters.{counting}
-use Rattle.std.proofs.shelf.Lists.{length-append, take-at, drop-at}
 use Rattle.std.proofs.shelf.Sums.{sumBy-cons, sumBy-append}
-use Rattle.std.proofs.shelf.Tests.{cases-bool, cond-true, cond-false, leb-true, eqb-true, eqb-false, eq-eqb, ne-eqb, le-leb, cases-eq}
+use Rattle.std.proofs.shelf.Tests.{cases-bool, cond-true, cond-false, leb-true, eq-eqb, ne-eqb, le-leb, cases-eq}
 use Rattle.talkers.specs.Sending.{due}
 use Rattle.streams.specs.Laws.{times}
 

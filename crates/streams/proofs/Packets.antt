@@ -1,22 +1,18 @@
 -- The packets that were sent: where each starts, and what holds of all of them.
-use mathlib.Core.Path.{_≡_, refl, sym, ap, _∙_, subst, subst₂}
+use mathlib.Core.Path.{_≡_, sym, ap, _∙_, subst, subst₂}
 use mathlib.Core.Logic.{_⊎_, inl, inr, ⊎-elim}
-use Prim.Native.Nat.{ℕ, zero, suc, _+_, _-_, _*_, _≤_, _<_}
+use Prim.Native.Nat.{ℕ, zero, suc, _+_, _-_, _≤_, _<_}
 use native.Mathlib.Nat.{add-zero}
 use native.Mathlib.Omega.{arith}
 use lib.Dec.{leb}
 use lib.Seq.{take-add}
 use Rattle.std.specs.shelf.Lists.{List, [], _∷_, _++_, length, take, drop, getD}
-use Rattle.std.specs.declared.option.Option.{Option}
-use Rattle.std.specs.declared.option.Option.the-variants.{Some, None}
 use Rattle.std.proofs.shelf.Lists.{length-push, take-all, take-append-le, take-take, getD-append-left, getD-push, getD-drop, length-drop}
 use Rattle.std.proofs.shelf.Sums.{sumBy-append, sumBy-more, sumBy-take-le, leading-le-length}
 use Rattle.std.proofs.shelf.Tests.{cases-lt}
 use Rattle.clock.specs.Ticks.{start as tick}
-use Rattle.plans.specs.Streams.{Stream, every}
+use Rattle.plans.specs.Streams.{every}
 use Rattle.talkers.specs.Sending.{Desk, Score, State as Talker, due}
-use Rattle.listeners.specs.declared.heard.Heard.{Heard}
-use Rattle.listeners.specs.Hearing.{State as Listener}
 use Rattle.streams.specs.Runs.{Packet, no-packet, packet-at, blocks, start}
 use Rattle.streams.specs.Laws.{Holds, left-unsent}
 use Rattle.streams.proofs.Lists.{due-in, due-least}

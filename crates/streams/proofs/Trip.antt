@@ -1,12 +1,12 @@
 -- What a listener hears of what a talker sent: the packet comes back as it was made.
-use mathlib.Core.Path.{_≡_, refl, sym, ap, _∙_, subst}
-use mathlib.Core.Bool.{Bool, true, false, cond, _&&_, _||_}
+use mathlib.Core.Path.{_≡_, sym, ap, _∙_, subst}
+use mathlib.Core.Bool.{true, false, cond, _&&_}
 use mathlib.Core.Logic.{⊎-elim}
 use Prim.Native.Nat.{ℕ, _+_, _-_, _*_, _/_, _%_, _≤_, _<_}
 use native.Mathlib.Nat.{mul-le-mul-left, mul-assoc, mul-comm, mul-pos, mul-div-left}
 use native.Mathlib.Omega.{arith}
 use lib.Dec.{eqb, ltb, leb}
-use Rattle.std.specs.shelf.Lists.{List, [], _∷_, _++_, length, take, drop, getD, map, joined, All}
+use Rattle.std.specs.shelf.Lists.{List, [], _++_, length, take, drop, getD, joined, All}
 use Rattle.std.specs.Iters.{counting}
 use Rattle.std.specs.declared.option.Option.{Option}
 use Rattle.std.specs.declared.option.Option.the-variants.{Some, None}
@@ -17,7 +17,7 @@ use Rattle.std.proofs.shelf.Sums.{leading-le-length}
 use Rattle.std.proofs.shelf.Tests.{cond-true, cond-false, eq-eqb, ne-eqb, lt-ltb, le-leb, lt-leb, and-from, and-right, or-from, or-right, cases-eq, cases-lt}
 use Rattle.clock.specs.Ticks.{start as tick, stamp, ticks}
 use Rattle.packets.specs.Headers.{headerBytes}
-use Rattle.packets.specs.Sorting.{idle, dbcOf, sytOf, blocks as blocks-in}
+use Rattle.packets.specs.Sorting.{idle, dbcOf, sytOf}
 use Rattle.plans.specs.Rates.{interval}
 use Rattle.plans.specs.Stamps.{stampedIndex}
 use Rattle.plans.specs.Streams.{every, dbs, fdf, blockBytes}

@@ -1,18 +1,16 @@
 -- What holds of each admitted list of calls.
 use mathlib.Core.Path.{_≡_}
-use mathlib.Core.Bool.{Bool, true, false, cond}
 use mathlib.Core.Logic.{_↔_}
 use Prim.Native.Nat.{ℕ, _+_, _-_, _*_, _%_, _≤_, _<_}
-use lib.Dec.{eqb, ltb, leb}
-use Rattle.std.specs.shelf.Lists.{List, [], _∷_, _++_, length, take, drop, getD, map, All, Has, countBy}
+use lib.Dec.{eqb, ltb}
+use Rattle.std.specs.shelf.Lists.{List, [], length, take, drop, map, All, Has, countBy}
 use Rattle.std.specs.Iters.{counting}
-use Rattle.std.specs.declared.option.Option.{Option}
 use Rattle.std.specs.declared.option.Option.the-variants.{Some, None}
 use Rattle.clock.specs.Ticks.{start as tick}
 use Rattle.plans.specs.Streams.{Stream, every}
 use Rattle.talkers.specs.Sending.{Desk, Score, due, presented}
 use Rattle.listeners.specs.Hearing.{State as Listener}
-use Rattle.streams.specs.Runs.{Who, first, second, Call, sends, send-refused, hears, hear-refused, Step, Calls, none-yet, _then_, Three, the, Packet, packet-at, blocks, start, Block, packets, accepted, reached, end, named-missing, handed-out, Admitted, Run, made, goes-on, fresh}
+use Rattle.streams.specs.Runs.{Who, first, second, Calls, Three, Packet, packet-at, blocks, start, Block, packets, accepted, end, named-missing, handed-out, Admitted, Run, made, goes-on}
 
 -- how often a number stands in a list
 abbrev pub times : ℕ → List ℕ → ℕ

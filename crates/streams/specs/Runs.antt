@@ -1,12 +1,12 @@
 -- Lists of sends by one talker and of hearings by two listeners, and which of them are admitted.
 use mathlib.Core.Path.{_≡_}
 use mathlib.Core.Bool.{cond}
-use Prim.Native.Nat.{ℕ, _+_, _-_, _*_, _%_, _≤_, _<_}
+use Prim.Native.Nat.{ℕ, _+_, _-_, _*_, _≤_, _<_}
 use lib.Dec.{eqb}
 use Rattle.std.specs.shelf.Lists.{List, [], _∷_, _++_, length, take, drop, getD, map, sumBy}
 use Rattle.std.specs.Iters.{counting}
 use Rattle.std.specs.declared.option.Option.{Option}
-use Rattle.std.specs.declared.option.Option.the-variants.{Some, None}
+use Rattle.std.specs.declared.option.Option.the-variants.{None}
 use Rattle.std.specs.declared.result.Result.the-variants.{Ok, Err}
 use Rattle.faults.specs.declared.packets.PacketFault.{PacketFault}
 use Rattle.packets.specs.Sorting.{dbcOf}

@@ -2,7 +2,7 @@
 use mathlib.Core.Path.{_≡_, refl, sym, ap, _∙_}
 use mathlib.Core.Bool.{false}
 use mathlib.Core.List.{List, [], _∷_, _++_}
-use Prim.Native.Nat.{ℕ, zero, suc, zero-le, _+_, _-_, _*_, _≤_, _<_}
+use Prim.Native.Nat.{ℕ, zero, suc, zero-le, _+_, _-_, _≤_, _<_}
 use native.Mathlib.Omega.{arith}
 use lib.Dec.{ltb}
 use borrow.Author.Tests.{le-ltb}
@@ -16,7 +16,7 @@ use Rattle.std.specs.declared.result.Result.the-variants.{Ok, Err}
 use Rattle.faults.specs.declared.located.Located.{Located}
 use Rattle.faults.specs.declared.units.UnitFault.{UnitFault}
 use Rattle.kinds.specs.Codes.{readFront}
-use Rattle.units.specs.Rows.{before, row, whether}
+use Rattle.units.specs.Rows.{before, row}
 
 -- the answer where the units us were read before
 abbrev pub after : {U : Type 0} → List U → Result (List U) (Located ℕ UnitFault) → Result (List U) (Located ℕ UnitFault)

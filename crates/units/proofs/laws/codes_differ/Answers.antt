@@ -1,5 +1,4 @@
-use mathlib.Core.Path.{_≡_, ap, sym, _∙_}
-use Rattle.std.specs.declared.result.Result.the-variants.{Ok}
+use mathlib.Core.Path.{ap, sym, _∙_}
 use Rattle.units.proofs.laws.codes_differ.Needs as need
 
 pub returns : need.returns

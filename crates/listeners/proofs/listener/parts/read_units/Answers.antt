@@ -9,7 +9,7 @@ use Rattle.plans.specs.Streams.{stream}
 use Rattle.units.specs.Rows.{row}
 use Rattle.units.proofs.Rows.{row-inside}
 use Rattle.listeners.specs.Hearing.{positionOf}
-use Rattle.listeners.proofs.Reading.{unit-inside, Read, read-ok, read-unit}
+use Rattle.listeners.proofs.Reading.{unit-inside, read-ok, read-unit}
 use Rattle.listeners.proofs.listener.parts.read_units.Needs as need
 
 pub position-requires : need.position-requires

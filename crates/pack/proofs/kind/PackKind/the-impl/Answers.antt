@@ -6,7 +6,6 @@ use lib.ListN.{length}
 use Rattle.std.specs.declared.result.Result.the-variants.{Ok}
 use Rattle.kinds.specs.Bits.{bytes, fromBytes}
 use Rattle.kinds.specs.Codes.{Bytes}
-use Rattle.pack.specs.declared.unit.PackUnit.{PackUnit}
 use Rattle.pack.specs.Codes.{code, heard}
 use Rattle.pack.proofs.kind.PackKind.the-impl.Needs as need
 

@@ -2,7 +2,6 @@ use mathlib.Core.Path.{_≡_}
 use lib.IntN.{ℤ}
 use borrow.Author.Needs.{needs}
 use Rattle.std.proofs.shelf.Results.{err-from-errBy}
-use Rattle.std.proofs.shelf.Signed.{toZ-ofZ}
 use Rattle.std.specs.declared.result.Result.the-variants.{Ok, Err}
 use Rattle.faults.specs.declared.units.UnitFault.{UnitFault}
 use Rattle.kinds.specs.declared.bits24.Bits24.{Bits24}

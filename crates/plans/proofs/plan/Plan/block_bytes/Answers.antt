@@ -1,8 +1,6 @@
-use mathlib.Core.Path.{_≡_}
-use Prim.Native.Nat.{ℕ, _+_, _*_, _≤_}
+use Prim.Native.Nat.{_*_}
 use native.Mathlib.Omega.{arith}
 use Rattle.std.proofs.shelf.Bits.{mul-le}
-use Rattle.plans.specs.Rates.{interval}
 use Rattle.plans.proofs.Intervals.{dimension-most}
 use Rattle.plans.proofs.plan.Plan.block_bytes.Needs as need
 

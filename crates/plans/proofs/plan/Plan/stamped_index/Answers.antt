@@ -1,4 +1,4 @@
-use mathlib.Core.Path.{_≡_, ap, sym, subst, _∙_}
+use mathlib.Core.Path.{ap, sym, subst, _∙_}
 use Rattle.plans.specs.Rates.{interval}
 use Rattle.plans.specs.Stamps.{stampedIndex, First-stamped}
 use Rattle.plans.proofs.Intervals.{first-stamped}

@@ -1,4 +1,3 @@
-use mathlib.Core.Path.{_≡_}
 use Rattle.talkers.specs.Views.{desk}
 use Rattle.streams.proofs.Accepted.{Desk-laws}
 use Rattle.streams.proofs.Law.{law-from-the-making}

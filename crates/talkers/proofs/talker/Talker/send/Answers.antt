@@ -1,6 +1,6 @@
 use mathlib.Core.Path.{_≡_, refl, sym, ap, subst, _∙_}
 use mathlib.Core.Bool.{false, not, _||_}
-use Prim.Native.Nat.{ℕ, _+_, _*_, _%_, _≤_}
+use Prim.Native.Nat.{_+_, _*_, _%_, _≤_}
 use native.Mathlib.Omega.{arith}
 use borrow.Author.Needs.{needs}
 use lib.Dec.{eqb, ltb}
@@ -15,7 +15,7 @@ use Rattle.plans.proofs.Intervals.{interval-most}
 use Rattle.talkers.specs.Sending.{badScore, due, blocks}
 use Rattle.talkers.specs.Views.{desk, state, scoreOf}
 use Rattle.talkers.proofs.Laying.{no-room, room-there}
-use Rattle.talkers.proofs.Sending.{units-there, Good, good, sends-no-room, sends-packet}
+use Rattle.talkers.proofs.Sending.{units-there, good, sends-no-room, sends-packet}
 use Rattle.talkers.proofs.talker.Talker.send.Needs as need
 
 pub units-of-units-requires : need.units-of-units-requires
