@@ -22,8 +22,8 @@ impl RelayFault {
         ensures { λ r. ⌜ r ≡ relayTold (now (self .entry)) ⌝ }
     {
         match self {
-            RelayFault::Send(fault) => fault.refusal(),
-            RelayFault::Hear(fault) => fault.refusal(),
+            RelayFault::Send(send) => send.refusal(),
+            RelayFault::Hear(hear) => hear.refusal(),
         }
     }
 }
