@@ -3,6 +3,8 @@
 //! With the name of a capture as its argument the program writes that reel to standard output, which
 //! is how the files were made.
 
+#![tactic(auto)]
+
 mod runs;
 mod telling;
 

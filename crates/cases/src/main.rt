@@ -1,5 +1,7 @@
 //! Grades reels that are given in hexadecimal, a line each, and prints what came of them.
 
+#![tactic(auto)]
+
 ghost use Rattle.std.specs.Prelude.{◌<◌};
 
 use faults::{PacketFault, RecordFault};

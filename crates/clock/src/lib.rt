@@ -3,6 +3,8 @@
 //! A second has 24,576,000 ticks and 8,000 cycles, so a cycle has 3,072 ticks. A stamp tells a time
 //! modulo sixteen cycles.
 
+#![tactic(auto)]
+
 ghost use Rattle.std.specs.Prelude.{◌≡◌, ℕ, ◌+◌, ◌*◌, ◌%◌, ◌<◌, ◌≤◌};
 ghost use Rattle.clock.specs.Cycles.{not_later};
 ghost use Rattle.clock.specs.Ticks.{start as start_of, stamp as stamp_of, Told};

@@ -1,5 +1,7 @@
 //! Worked runs: each is a call whose contract states the answer in full.
 
+#![tactic(auto)]
+
 mod carrying;
 mod streams;
 mod units;

@@ -3,6 +3,8 @@
 //! A unit's fault is carried whole inside a packet's, and a packet's inside a record's, each with
 //! the position that it had there. Every fault is told as a number and a place.
 
+#![tactic(auto)]
+
 mod located;
 mod packets;
 mod records;

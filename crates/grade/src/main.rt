@@ -1,5 +1,7 @@
 //! Reads a reel from standard input, grades it, and prints the line that a price list quotes.
 
+#![tactic(auto)]
+
 use grading::grade_reel;
 use pack::PackUnit;
 use quadlets::Am824Unit;

@@ -1,5 +1,7 @@
 //! What a kind of unit is, and the two fields of which units are made.
 
+#![tactic(auto)]
+
 mod bits24;
 mod kind;
 mod nibble;

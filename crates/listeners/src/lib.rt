@@ -1,5 +1,7 @@
 //! The listener: it numbers the blocks that it hears, and the blocks that are missing.
 
+#![tactic(auto)]
+
 mod heard;
 mod listener;
 

@@ -2,6 +2,8 @@
 //! row back, shows one refusal of each cause, plans a stream and sends it by both methods, then lets
 //! two listeners hear it.
 
+#![tactic(auto)]
+
 mod hearing;
 mod refusals;
 mod rows;

@@ -1,5 +1,7 @@
 //! Packs: four signed 24-bit samples in three quadlets.
 
+#![tactic(auto)]
+
 mod kind;
 mod making;
 mod texts;

@@ -1,5 +1,7 @@
 //! CIP packets: the header that is written, and the sorting of what is heard.
 
+#![tactic(auto)]
+
 mod header;
 mod sorted;
 mod sorting;

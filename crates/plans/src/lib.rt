@@ -1,6 +1,8 @@
 //! What a stream is planned with: its rate, its kind of unit, the units of a block, and the method
 //! by which it is sent.
 
+#![tactic(auto)]
+
 mod delay;
 mod fault;
 mod method;

@@ -1,5 +1,7 @@
 //! What stands in a reel: its records, its trailer, and whether the two agree.
 
+#![tactic(auto)]
+
 mod checked;
 mod checking;
 mod fault;

@@ -2,6 +2,8 @@
 //!
 //! A reel is kept as plain numbers; its bytes are the caller's and are passed at each call.
 
+#![tactic(auto)]
+
 mod full;
 mod plan;
 mod reel;

@@ -1,5 +1,7 @@
 //! The figures of a run, its grade, and the line that a price list quotes.
 
+#![tactic(auto)]
+
 mod grade;
 mod line;
 mod report;

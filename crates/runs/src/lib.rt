@@ -1,5 +1,7 @@
 //! Worked runs of a talker and two listeners, and a worked capture.
 
+#![tactic(auto)]
+
 mod captured;
 mod left;
 mod wrap;

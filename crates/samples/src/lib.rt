@@ -1,5 +1,7 @@
 //! AM824 units from bare numbers, and raw samples as a length code and a number.
 
+#![tactic(auto)]
+
 mod making;
 mod sample;
 

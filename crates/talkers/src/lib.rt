@@ -1,5 +1,7 @@
 //! The talker: it sends the blocks of a score as they fall due.
 
+#![tactic(auto)]
+
 mod fault;
 mod score;
 mod sent;

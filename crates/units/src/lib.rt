@@ -1,5 +1,7 @@
 //! Rows of units of any kind: codes one after another, with nothing between them.
 
+#![tactic(auto)]
+
 mod fault;
 mod laws;
 mod reading;

@@ -1,5 +1,7 @@
 //! Tables that are run and compared.
 
+#![tactic(auto)]
+
 #[cfg(test)]
 mod labels;
 #[cfg(test)]
