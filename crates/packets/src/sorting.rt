@@ -17,7 +17,7 @@ fn bad_length(packet: &[u8]) -> bool
 /// Whether the fixed parts of a header, or the size of its blocks, are not the plan's.
 fn bad_header<K: Kind>(plan: &Plan<K>, packet: &[u8]) -> bool
     requires { 8 ≤ length packet.now }
-    ensures { result ≡ bad_header (stream size code heard plan.now) packet.now }
+    ensures { result ≡ bad_header (stream K.size K.code K.heard plan.now) packet.now }
 {
     packet[0] > 63 || packet[4] != 0x90 || packet[2] != 0 || packet[1] != plan.dbs()
 }
@@ -25,7 +25,7 @@ fn bad_header<K: Kind>(plan: &Plan<K>, packet: &[u8]) -> bool
 /// Whether FDF is neither the plan's nor that of an idle packet.
 fn bad_format<K: Kind>(plan: &Plan<K>, packet: &[u8]) -> bool
     requires { 8 ≤ length packet.now }
-    ensures { result ≡ bad_format (stream size code heard plan.now) packet.now }
+    ensures { result ≡ bad_format (stream K.size K.code K.heard plan.now) packet.now }
 {
     packet[5] != 0xff && packet[5] != plan.fdf()
 }
@@ -33,7 +33,7 @@ fn bad_format<K: Kind>(plan: &Plan<K>, packet: &[u8]) -> bool
 /// Whether a payload ends inside a block, or has more blocks than an interval.
 fn bad_payload<K: Kind>(plan: &Plan<K>, packet: &[u8]) -> bool
     requires { 8 ≤ length packet.now }
-    ensures { result ≡ bad_payload (stream size code heard plan.now) packet.now }
+    ensures { result ≡ bad_payload (stream K.size K.code K.heard plan.now) packet.now }
 {
     let payload = packet.len() - 8;
     let block = plan.block_bytes();
@@ -43,7 +43,7 @@ fn bad_payload<K: Kind>(plan: &Plan<K>, packet: &[u8]) -> bool
 /// Whether SYT is no time, or the packet has no block for it.
 fn bad_stamp<K: Kind>(plan: &Plan<K>, packet: &[u8]) -> bool
     requires { 8 ≤ length packet.now }
-    ensures { result ≡ bad_stamp (stream size code heard plan.now) packet.now }
+    ensures { result ≡ bad_stamp (stream K.size K.code K.heard plan.now) packet.now }
 {
     let syt = 256 * (packet[6] as u16) + packet[7] as u16;
     let blocks = (packet.len() - 8) / plan.block_bytes();
@@ -61,7 +61,7 @@ fn payload(packet: &[u8]) -> &[u8]
 
 /// What a packet is by a plan, or why it is refused: the smallest number wins.
 pub fn sort<'a, K: Kind>(plan: &Plan<K>, packet: &'a [u8]) -> Result<Sorted<'a>, PacketFault>
-    ensures { MatchResult result (λ sorted. (refusal (stream size code heard plan.now) packet.now ≡ None) × Sorts packet.entry sorted) (λ f. refusal (stream size code heard plan.now) packet.now ≡ Some f) }
+    ensures { MatchResult result (λ sorted. (refusal (stream K.size K.code K.heard plan.now) packet.now ≡ None) × Sorts packet.entry sorted) (λ f. refusal (stream K.size K.code K.heard plan.now) packet.now ≡ Some f) }
 {
     if bad_length(packet) {
         return Err(PacketFault::Length);

@@ -1,6 +1,7 @@
 -- A stream as contracts speak of it: the meaning of its kind, and the numbers of its plan.
 use Rattle.std.specs.Prelude.{ℕ, ◌+◌, ◌*◌, List, Result}
 use Rattle.faults.specs.declared.units.UnitFault.{UnitFault}
+use Rattle.kinds.specs.declared.kind.Kind.{Ghosts}
 use Rattle.plans.specs.declared.plan.Plan.{Plan}
 use Rattle.plans.specs.Rates.{interval}
 
@@ -14,7 +15,7 @@ pub record Stream (U : Type 0) : Type 0 where
   pub event : ℕ
 
 -- the stream of a plan, for a kind that means this
-abbrev pub stream : {X U : Type 0} → ℕ → (U → List ℕ) → (List ℕ → Result U UnitFault) → Plan X U → Stream U
+abbrev pub stream : {X U : Type 0} {K : Ghosts X U} → ℕ → (U → List ℕ) → (List ℕ → Result U UnitFault) → Plan X U K → Stream U
 stream size code heard p =
     record { size = size; code = code; heard = heard; sfc = p.sfc; dimension = p.dimension; quadlets = p.quadlets; event = p.event }
 

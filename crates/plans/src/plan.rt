@@ -1,7 +1,8 @@
-ghost use Rattle.std.specs.Prelude.{◌+◌, ◌*◌, ◌≤◌};
+ghost use Rattle.std.specs.Prelude.{◌≡◌, ◌+◌, ◌*◌, ◌≤◌, ⊤};
 ghost use Rattle.plans.specs.Rates.{interval as interval_of};
 
 use kinds::Kind;
+use std::alloc::AllocError;
 use std::marker::PhantomData;
 
 mod methods;
@@ -22,6 +23,16 @@ pub struct Plan<K: Kind> {
     ghost sized: { 1 ≤ quadlets },
     ghost typed: { event ≤ 3 },
     ghost fits: { 2 + interval_of sfc * dimension * quadlets ≤ 1024 },
+}
+
+impl<K: Kind> Clone for Plan<K> {
+    ghost is_clone = { λ plan copy. copy ≡ plan };
+
+    ghost is_infallible = { λ _. ⊤ };
+
+    fn clone(&self) -> Result<Plan<K>, AllocError> {
+        Ok(*self)
+    }
 }
 
 impl<K: Kind> Copy for Plan<K> {}

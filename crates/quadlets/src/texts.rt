@@ -30,7 +30,7 @@ impl fmt::Display for Marker {
 
 /// Writes the length of a sample in bits, and its number.
 fn write_sample<W: fmt::Write>(f: &mut fmt::Formatter<W>, length: u8, bits: Bits24) -> fmt::Result
-    ensures { WritesOnOk write_str_gives f.old result (sample_text length bits) f.new }
+    ensures { WritesOnOk W.write_str_gives f.old result (sample_text length bits) f.new }
 {
     write!(f, "{length}-bit sample {bits}")
 }

@@ -4,5 +4,5 @@ use kinds::Kind;
 
 /// Different units of a kind have different codes.
 pub fn codes_differ<K: Kind>()
-    ensures { (u v : K.Unit) → code u ≡ code v → u ≡ v }
+    ensures { (u v : K.Unit) → K.code u ≡ K.code v → u ≡ v }
 {}

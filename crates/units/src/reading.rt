@@ -18,7 +18,7 @@ fn refused(index: usize, fault: UnitFault) -> Located<usize, UnitFault>
 
 /// Whether the first `count` units of `bytes` are units; else the first that is refused.
 pub fn check_row<K: Kind>(bytes: &[u8], count: usize) -> Result<(), Located<usize, UnitFault>>
-    ensures { result ≡ whether (row (4 * size) heard count bytes.now) }
+    ensures { result ≡ whether (row (4 * K.size) K.heard count bytes.now) }
 {
     let step = 4 * K::size() as usize;
     let mut at = 0;
@@ -34,7 +34,7 @@ pub fn check_row<K: Kind>(bytes: &[u8], count: usize) -> Result<(), Located<usiz
 /// Writes the first `count` units of `bytes` to the front of `list`, up to the first refused.
 fn fill_row<K: Kind>(bytes: &[u8], count: usize, list: &mut [K::Unit])
     requires { count ≤ length list.old }
-    ensures { (us : List K.Unit) → row (4 * size) heard count bytes.now ≡ Ok us → list.new ≡ us ++ drop count list.old }
+    ensures { (us : List K.Unit) → row (4 * K.size) K.heard count bytes.now ≡ Ok us → list.new ≡ us ++ drop count list.old }
 {
     let step = 4 * K::size() as usize;
     let mut at = 0;
@@ -50,8 +50,8 @@ fn fill_row<K: Kind>(bytes: &[u8], count: usize, list: &mut [K::Unit])
 /// Reads the first `count` units of `bytes` to the front of `list` and leaves its rest, or refuses
 /// and leaves all.
 pub fn read_row<K: Kind>(bytes: &[u8], count: usize, list: &mut [K::Unit]) -> Result<(), RowFault>
-    ensures answer { result ≡ row_answer count (row (4 * size) heard count bytes.now) list.old }
-    ensures units { list.new ≡ row_left count (row (4 * size) heard count bytes.now) list.old }
+    ensures answer { result ≡ row_answer count (row (4 * K.size) K.heard count bytes.now) list.old }
+    ensures units { list.new ≡ row_left count (row (4 * K.size) K.heard count bytes.now) list.old }
 {
     if list.len() < count {
         return Err(RowFault::List);

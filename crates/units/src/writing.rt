@@ -17,9 +17,9 @@ fn short(bytes: usize, step: usize, count: usize) -> bool
 /// Lays the codes of units one after another at the front of `out` and leaves the rest, or refuses
 /// and leaves all. What it lays is read back as these units.
 pub fn write_row<K: Kind>(units: &[K::Unit], out: &mut [u8]) -> Result<(), UnitFault>
-    ensures answer { result ≡ laid_answer (4 * size * length units.now) out.old }
-    ensures bytes { out.new ≡ laid (4 * size * length units.now) (flat_map code units.now) out.old }
-    ensures back { OnOk result (row (4 * size) heard (length units.now) out.new ≡ Ok units.now) }
+    ensures answer { result ≡ laid_answer (4 * K.size * length units.now) out.old }
+    ensures bytes { out.new ≡ laid (4 * K.size * length units.now) (flat_map K.code units.now) out.old }
+    ensures back { OnOk result (row (4 * K.size) K.heard (length units.now) out.new ≡ Ok units.now) }
 {
     let step = 4 * K::size() as usize;
     if short(out.len(), step, units.len()) {

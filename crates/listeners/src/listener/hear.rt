@@ -15,7 +15,7 @@ use packets::sort;
 impl<K: Kind> Listener<K> {
     /// What a packet brings, its units aside; nothing is changed.
     fn weigh(&self, cycle: u32, packet: &[u8]) -> Result<Heard, PacketFault>
-        ensures { result ≡ answered (weigh_refusal (stream size code heard self.now.plan) cycle packet.now (state self.now)) (brought (stream size code heard self.now.plan) cycle packet.now (state self.now)) }
+        ensures { result ≡ answered (weigh_refusal (stream K.size K.code K.heard self.now.plan) cycle packet.now (state self.now)) (brought (stream K.size K.code K.heard self.now.plan) cycle packet.now (state self.now)) }
     {
         if not_later(cycle, self.last) {
             return Err(PacketFault::Cycle);
@@ -38,7 +38,7 @@ impl<K: Kind> Listener<K> {
         packet: &[u8],
         list: &mut [K::Unit],
     ) -> Result<Heard, PacketFault>
-        ensures hears { Hears (stream size code heard self.old.plan) cycle packet.now (state self.old) list.old result list.new (state self.new) }
+        ensures hears { Hears (stream K.size K.code K.heard self.old.plan) cycle packet.now (state self.old) list.old result list.new (state self.new) }
         ensures same { self.new.plan ≡ self.old.plan }
     {
         let heard = self.weigh(cycle, packet)?;

@@ -29,7 +29,7 @@ pub fn time_of(cycle: u32, syt: u16) -> u64
 pub fn count_of<K: Kind>(plan: &Plan<K>, packet: &[u8]) -> u32
     requires long { 8 ≤ length packet.now }
     requires short { length packet.now ≤ 4096 }
-    ensures { result ≡ count (stream size code heard plan.now) packet.now }
+    ensures { result ≡ count (stream K.size K.code K.heard plan.now) packet.now }
 {
     if packet[5] == 0xff {
         return 0;
@@ -52,8 +52,8 @@ pub fn time_in(cycle: u32, packet: &[u8]) -> Option<u64>
 /// Where the unit at an index of a packet stands.
 fn position<K: Kind>(dimension: u16, index: usize) -> UnitPosition
     requires some { 1 ≤ dimension }
-    requires inside { 8 + 4 * size * index ≤ 4096 }
-    ensures { result ≡ position_of (4 * size) dimension index }
+    requires inside { 8 + 4 * K.size * index ≤ 4096 }
+    ensures { result ≡ position_of (4 * K.size) dimension index }
 {
     let dimension = dimension as usize;
     UnitPosition {
@@ -78,10 +78,10 @@ pub fn read_units<K: Kind>(
     blocks: u32,
     list: &mut [K::Unit],
 ) -> Result<(), PacketFault>
-    requires whole { 8 + 4 * size * (plan.now.dimension * blocks) ≤ length packet.now }
+    requires whole { 8 + 4 * K.size * (plan.now.dimension * blocks) ≤ length packet.now }
     requires short { length packet.now ≤ 4096 }
-    ensures answer { result ≡ answered (list_refusal (stream size code heard plan.now) (plan.now.dimension * blocks) (row (4 * size) heard (plan.now.dimension * blocks) (drop 8 packet.now)) (length list.old)) tt }
-    ensures units { list.new ≡ changed (list_refusal (stream size code heard plan.now) (plan.now.dimension * blocks) (row (4 * size) heard (plan.now.dimension * blocks) (drop 8 packet.now)) (length list.old)) list.old (over (plan.now.dimension * blocks) (row (4 * size) heard (plan.now.dimension * blocks) (drop 8 packet.now)) list.old) }
+    ensures answer { result ≡ answered (list_refusal (stream K.size K.code K.heard plan.now) (plan.now.dimension * blocks) (row (4 * K.size) K.heard (plan.now.dimension * blocks) (drop 8 packet.now)) (length list.old)) tt }
+    ensures units { list.new ≡ changed (list_refusal (stream K.size K.code K.heard plan.now) (plan.now.dimension * blocks) (row (4 * K.size) K.heard (plan.now.dimension * blocks) (drop 8 packet.now)) (length list.old)) list.old (over (plan.now.dimension * blocks) (row (4 * K.size) K.heard (plan.now.dimension * blocks) (drop 8 packet.now)) list.old) }
 {
     let dimension = plan.dimension();
     let Err(fault) = read_row::<K>(&packet[8..], dimension as usize * blocks as usize, list) else {

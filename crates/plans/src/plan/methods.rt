@@ -21,7 +21,7 @@ fn full_packet(interval: u8, dimension: u32, size: u16) -> u64
 impl<K: Kind> Plan<K> {
     /// The plan of a sampling frequency code and a number of units a block.
     pub fn new(sfc: u8, dimension: u32) -> Result<Plan<K>, PlanFault>
-        ensures { MatchResult result (λ p. (plan_refusal size sfc dimension ≡ None) × (p.sfc ≡ sfc) × (p.dimension ≡ dimension) × (p.quadlets ≡ size) × (p.event ≡ event)) (λ f. plan_refusal size sfc dimension ≡ Some f) }
+        ensures { MatchResult result (λ p. (plan_refusal K.size sfc dimension ≡ None) × (p.sfc ≡ sfc) × (p.dimension ≡ dimension) × (p.quadlets ≡ K.size) × (p.event ≡ K.event)) (λ f. plan_refusal K.size sfc dimension ≡ Some f) }
     {
         let Some(rate) = Rate::of(sfc) else {
             return Err(PlanFault::Rate);
@@ -80,7 +80,7 @@ impl<K: Kind> Plan<K> {
 
     /// The bytes of a block.
     pub fn block_bytes(&self) -> usize
-        ensures value { result ≡ 4 * size * self.now.dimension }
+        ensures value { result ≡ 4 * K.size * self.now.dimension }
         ensures some { 1 ≤ result }
         ensures most { result ≤ 4 * 1022 * 1022 }
     {

@@ -40,7 +40,7 @@ pub fn blocks_taken<M: Method>(
 ) -> u32
     requires reached { place ≤ length arrivals.now }
     requires few { length arrivals.now ≤ 65536 }
-    ensures value { result ≡ takes (due (start_of cycle) (drop place arrivals.now)) interval }
+    ensures value { result ≡ M.takes (due (start_of cycle) (drop place arrivals.now)) interval }
     ensures inside { place + result ≤ length arrivals.now }
     ensures within { result ≤ interval }
     ensures arrived { (k : ℕ) → k < result → slice_index arrivals.now (place + k) ≤ start_of cycle }
@@ -88,8 +88,8 @@ pub fn write_packet<K: Kind>(
     units: &[K::Unit],
     bytes: &mut [u8],
 ) -> Result<(), UnitFault>
-    ensures answer { result ≡ laid_answer (8 + 4 * size * length units.now) bytes.old }
-    ensures bytes { bytes.new ≡ laid (8 + 4 * size * length units.now) (header ++ flat_map code units.now) bytes.old }
+    ensures answer { result ≡ laid_answer (8 + 4 * K.size * length units.now) bytes.old }
+    ensures bytes { bytes.new ≡ laid (8 + 4 * K.size * length units.now) (header ++ flat_map K.code units.now) bytes.old }
 {
     if bytes.len() < 8 {
         return Err(UnitFault::ROOM);

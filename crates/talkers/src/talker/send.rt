@@ -20,7 +20,7 @@ impl<K: Kind, M: Method> Talker<K, M> {
         cycle: u32,
         bytes: &mut [u8],
     ) -> Result<Sent, SendFault>
-        ensures sends { Sends (desk size code heard takes self.old) (score_of score.entry.arrivals.now score.entry.units.now) (state self.old) cycle bytes.old result bytes.new (state self.new) }
+        ensures sends { Sends (desk K.size K.code K.heard M.takes self.old) (score_of score.entry.arrivals.now score.entry.units.now) (state self.old) cycle bytes.old result bytes.new (state self.new) }
         ensures same { SameDesk self.old self.new }
     {
         let arrivals = score.arrivals;

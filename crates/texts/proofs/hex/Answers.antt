@@ -8,7 +8,7 @@ loop-byte-preserved c =
     let bs = c.args.bytes.now in
     let i = c.loop-byte.byte-index in
     let b = get_or bs i 0 in
-    c.in-ok-push-byte.ensures ∙ ap (λ t. t ++ hex_byte b) c.loop-byte.invariant ∙ flat_map_more hex_byte [] (take i bs) b
+    c.in_ok-push_byte.ensures ∙ ap (λ t. t ++ hex_byte b) c.loop-byte.invariant ∙ flat_map_more hex_byte [] (take i bs) b
     ∙ ap hex_text (sym (take_more bs i 0 c.loop-byte-test.true))
 
 pub returns : goal.returns

@@ -10,4 +10,4 @@ three s t u v x y z y' z' d e p q r =
 
 pub returns : goal.returns
 returns c =
-    three _ _ _ _ _ _ _ _ _ c.digit.ensures.value c.digit-2.ensures.value c.in-ok-push-ascii.ensures c.in-ok-push-ascii-2.ensures c.in-ok-push-ascii-3.ensures
+    three _ _ _ _ _ _ _ _ _ c.digit.ensures.value c.digit-2.ensures.value c.in_ok-push_ascii.ensures c.in_ok-push_ascii-2.ensures c.in_ok-push_ascii-3.ensures

@@ -21,8 +21,8 @@ count-requires g c =
       refused = omega (arith, few, ran_few_refused s bs list _ c.records.tally c.records.position r);
     }
 
-pub place-behind-position-requires : goal.place-behind-position-requires
-place-behind-position-requires g c =
+pub place_behind-position-requires : goal.place_behind-position-requires
+place_behind-position-requires g c =
     let k = g.K.Kind in
     let s = stream k.size k.code k.heard c.args.plan in
     let bs = c.args.bytes.now in
@@ -45,13 +45,13 @@ records-preserved g c =
     let x = c.in-Some.ensures in
     let r : Record = record { cycle = c.in-Some.next.cycle; packet = c.in-Some.next.packet.now } in
     let t : Standing g.row.K-Unit.Denot = record { state = state c.records.listener; list = c.records.list } in
-    let h = c.hear-record.ensures in
+    let h = c.hear_record.ensures in
     let same = ap (stream k.size k.code k.heard) i.0 in
     let q = ran_more s bs c.args.list.now _ c.records.tally p i.1 _ (between_to_end bs p.place (length bs) (omega arith)) _ x.0 x.1 in
     let ran = ran_as s bs c.args.list.now
     (h.left ∙ ap (λ z. after z t r) same)
     (c.count.ensures ∙ ap (counted c.records.tally) (h.answer ∙ ap (λ z. of_record p (answer z t r)) same))
-    c.place-behind-position.ensures q in
+    c.place_behind-position.ensures q in
     (h.same ∙ i.0, ran, ran_inside s bs c.args.list.now _ _ _ ran)
 
 pub returns : goal.returns
@@ -62,9 +62,9 @@ returns g c =
     let l = c.records.listener in
     let p = c.records.position in
     let rest = between_to_end bs p.place (length bs) (omega arith) in
-    let none = c.in-default.ensures in
+    let none = c.in_default.ensures in
     record {
-      report = c.report-of.ensures ∙ ap (λ n. reported n l.heard l.missed c.records.tally) c.interval.ensures
+      report = c.report_of.ensures ∙ ap (λ n. reported n l.heard l.missed c.records.tally) c.interval.ensures
           ∙ ran_report s bs c.args.list.now _ c.records.tally p c.records.invariant.1 _ rest none (every s);
       list = ran_left s bs c.args.list.now _ c.records.tally p c.records.invariant.1 _ rest none;
     }

@@ -23,4 +23,4 @@ pub returns : goal.returns
 returns c =
     let bs = c.args.bytes.now in
     let w = c.records.walk in
-    passed_all bs w c.records.invariant _ (between_to_end bs w.at (length bs) (omega arith)) c.in-default.ensures
+    passed_all bs w c.records.invariant _ (between_to_end bs w.at (length bs) (omega arith)) c.in_default.ensures

@@ -15,10 +15,10 @@ pub loop-i-preserved : goal.loop-i-preserved
 loop-i-preserved g c =
     let r = c.loop-i.invariant in
     let m = g.K.Kind in
-    let u = c.in-default.field-0 in (
+    let u = c.in_default.field-0 in (
       r.0 ++ u ∷ [],
       subst (λ k. Reached (4 * m.size) m.heard c.args.count c.args.bytes.now (c.loop-i.i + 1) (c.loop-i.at + 4 * k) (r.0 ++ u ∷ [])) (sym c.size.ensures.same)
-          (reached_more _ g.K.Kind.heard _ _ _ _ r.0 u r.1 c.loop-i-test.true c.in-default.ensures),
+          (reached_more _ g.K.Kind.heard _ _ _ _ r.0 u r.1 c.loop-i-test.true c.in_default.ensures),
     )
 
 pub returns : goal.returns

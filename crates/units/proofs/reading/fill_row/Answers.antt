@@ -5,10 +5,10 @@ use Rattle.units.proofs.reading.fill_row.Goals as goal
 pub loop-i-init : goal.loop-i-init
 loop-i-init g c = ([], reached_none _ g.K.Kind.heard _ _, refl)
 
-pub returns-in-default : goal.returns-in-default
-returns-in-default g c us e =
+pub returns-in_default : goal.returns-in_default
+returns-in_default g c us e =
     let r = c.loop-i.invariant in
-    let f = reached_refused _ g.K.Kind.heard _ _ _ _ r.0 _ r.1 c.loop-i-test.true c.in-default.ensures in
+    let f = reached_refused _ g.K.Kind.heard _ _ _ _ r.0 _ r.1 c.loop-i-test.true c.in_default.ensures in
     let z : ◌≡◌ {A = ℕ} 0 1 = cc in
     absurd (omega arith)
 

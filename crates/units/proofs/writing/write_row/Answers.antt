@@ -31,17 +31,17 @@ room len s q count i at e h k l f =
     let all = subst (λ x. 4 * x * count ≤ len) e (fits len (4 * q) count (omega arith) k) in
     omega (arith, fits_one len (4 * s) count i all l)
 
-pub slice-bounds-write-count : goal.slice-bounds-write-count
-slice-bounds-write-count g c = let r = room _ _ _ _ _ _ c.size.ensures.same c.size.ensures.some (not_told c.short.ensures c.if-short.false) c.loop-unit-test.true c.loop-unit.invariant.0 in omega arith
+pub slice_bounds-write-count : goal.slice_bounds-write-count
+slice_bounds-write-count g c = let r = room _ _ _ _ _ _ c.size.ensures.same c.size.ensures.some (not_told c.short.ensures c.if-short.false) c.loop-unit-test.true c.loop-unit.invariant.0 in omega arith
 
-pub slice-bounds-write-start : goal.slice-bounds-write-start
-slice-bounds-write-start g c = let r = room _ _ _ _ _ _ c.size.ensures.same c.size.ensures.some (not_told c.short.ensures c.if-short.false) c.loop-unit-test.true c.loop-unit.invariant.0 in search rules
+pub slice_bounds-write-start : goal.slice_bounds-write-start
+slice_bounds-write-start g c = let r = room _ _ _ _ _ _ c.size.ensures.same c.size.ensures.some (not_told c.short.ensures c.if-short.false) c.loop-unit-test.true c.loop-unit.invariant.0 in search rules
 
-pub returns-in-err-write : goal.returns-in-err-write
-returns-in-err-write g c =
+pub returns-in_err-write : goal.returns-in_err-write
+returns-in_err-write g c =
     let r = room _ _ _ _ _ _ c.size.ensures.same c.size.ensures.some (not_told c.short.ensures c.if-short.false) c.loop-unit-test.true c.loop-unit.invariant.0 in
     let e = c.write.ensures.answer ∙ laid_there c.loop-unit.out c.loop-unit.at (4 * g.K.Kind.size) (omega arith) in
-    let f = c.in-err-write.was in
+    let f = c.in_err-write.was in
     let z : ◌≡◌ {A = ℕ} 0 1 = cc in
     absurd (omega arith)
 

@@ -8,5 +8,5 @@ returns c =
     let room : ltb (length out) 12 ≡ false = le-ltb (length out) 12 (omega arith) in
     record {
       answer = sym (cond-false _ _ _ room);
-      bytes = ap (λ l. l ++ drop 12 out) (c.copy-from-slice.ensures.after ∙ c.encode.ensures) ∙ sym (cond-false _ _ _ room);
+      bytes = ap (λ l. l ++ drop 12 out) (c.copy_from_slice.ensures.after ∙ c.encode.ensures) ∙ sym (cond-false _ _ _ room);
     }

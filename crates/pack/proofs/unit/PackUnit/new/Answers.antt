@@ -9,9 +9,9 @@ use Rattle.pack.proofs.unit.PackUnit.new.Goals as goal
 refused : (a b c d : ℤ) (x : Bits24 × Bits24) (f : UnitFault) → Ok x ≡ made_two a b → Err f ≡ made_two c d → Err f ≡ made a b c d
 refused a b c d x f p q = search rules
 
-pub returns-in-err-third : goal.returns-in-err-third
-returns-in-err-third c =
-    let p = err_from_is_err_and c.from-residual-in-err-third.result c.from-residual-in-err-third.ensures.1 in
-    let q = c.in-ok-first.ensures in
-    let r = c.in-err-third.ensures in
+pub returns-in_err-third : goal.returns-in_err-third
+returns-in_err-third c =
+    let p = err_from_is_err_and c.from_residual-in_err-third.result c.from_residual-in_err-third.ensures.1 in
+    let q = c.in_ok-first.ensures in
+    let r = c.in_err-third.ensures in
     rw (p.1, p.2) (search (rules, refused))

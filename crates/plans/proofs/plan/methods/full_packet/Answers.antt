@@ -8,11 +8,11 @@ most i d s p q r = mul-le (i * d) s (255 * 4294967295) 65535 (mul-le i d 255 429
 least : (i d s : ℕ) → 1 ≤ i → 1 ≤ s → d ≤ i * d * s
 least i d s p q = omega (arith, mul-le 1 d i d p (omega arith), mul-le (i * d) 1 (i * d) s (omega arith) q, mul-one (i * d), one-mul d)
 
-pub overflow-mul-result-2 : goal.overflow-mul-result-2
-overflow-mul-result-2 c = let m = most c.args.interval c.args.dimension c.args.size (omega arith) (omega arith) (omega arith) in search rules
+pub overflow_mul-result-2 : goal.overflow_mul-result-2
+overflow_mul-result-2 c = let m = most c.args.interval c.args.dimension c.args.size (omega arith) (omega arith) (omega arith) in search rules
 
-pub overflow-add-result : goal.overflow-add-result
-overflow-add-result c = let m = most c.args.interval c.args.dimension c.args.size (omega arith) (omega arith) (omega arith) in search rules
+pub overflow_add-result : goal.overflow_add-result
+overflow_add-result c = let m = most c.args.interval c.args.dimension c.args.size (omega arith) (omega arith) (omega arith) in search rules
 
 pub returns : goal.returns
 returns c = record { value = refl; least = omega (arith, least c.args.interval c.args.dimension c.args.size c.requires.some c.requires.sized) }

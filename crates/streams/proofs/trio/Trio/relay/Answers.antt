@@ -17,11 +17,11 @@ hearing_steps : {U : Type 0} (d : Desk U) (v : Three) {cycle : ℕ} {packet : Li
 hearing_steps d v (Ok a) h which = (h, refl, refl)
 hearing_steps d v (Err f) h which = (h, refl, refl)
 
-pub returns-in-err-sent : goal.returns-in-err-sent
-returns-in-err-sent g c =
-    let p = err_from_is_err_and c.from-residual.result c.from-residual.ensures.1 in
+pub returns-in_err-sent : goal.returns-in_err-sent
+returns-in_err-sent g c =
+    let p = err_from_is_err_and c.from_residual.result c.from_residual.ensures.1 in
     rw (p.1, p.2) (record {
-      relays = record { sending = (c.in-err-sent.ensures.sends, refl, refl); list_left = refl };
+      relays = record { sending = (c.in_err-sent.ensures.sends, refl, refl); list_left = refl };
       same = record { talker = c.send.ensures.same; first_plan = refl; second = refl };
     })
 
@@ -32,7 +32,7 @@ returns g c =
     record {
       relays = record {
         between = between;
-        sending = (c.in-ok-sent.ensures.sends, refl, refl);
+        sending = (c.in_ok-sent.ensures.sends, refl, refl);
         hearing = hearing_steps _ between c.hear-heard.result c.hear-heard.ensures.hears;
       };
       same = record { talker = c.send.ensures.same; first_plan = c.hear-heard.ensures.same; second = refl };

@@ -4,11 +4,11 @@ use Rattle.talkers.specs.Sending.{due}
 use Rattle.talkers.proofs.Due.{taken_inside, taken_arrived}
 use Rattle.talkers.proofs.talker.parts.blocks_taken.Goals as goal
 
-pub overflow-cast-due : goal.overflow-cast-due
-overflow-cast-due g c =
-    let e = c.due-blocks-due.ensures ∙ ap (λ t. due t (drop c.args.place c.args.arrivals.now)) c.start.ensures in
-    let h = taken_inside c.args.arrivals.now c.args.place (start c.args.cycle) c.due-blocks-due.result c.requires.reached (omega (arith, e)) in
-    let few : c.due-blocks-due.result ≤ 65536 = omega (arith, h, c.requires.few) in
+pub overflow_cast-due : goal.overflow_cast-due
+overflow_cast-due g c =
+    let e = c.due_blocks-due.ensures ∙ ap (λ t. due t (drop c.args.place c.args.arrivals.now)) c.start.ensures in
+    let h = taken_inside c.args.arrivals.now c.args.place (start c.args.cycle) c.due_blocks-due.result c.requires.reached (omega (arith, e)) in
+    let few : c.due_blocks-due.result ≤ 65536 = omega (arith, h, c.requires.few) in
     search rules
 
 pub returns : goal.returns
@@ -18,7 +18,7 @@ returns g c =
     let place = c.args.place in
     let i = c.args.interval in
     let w = due by (drop place xs) in
-    let e = c.due-blocks-due.ensures ∙ ap (λ t. due t (drop place xs)) c.start.ensures in
+    let e = c.due_blocks-due.ensures ∙ ap (λ t. due t (drop place xs)) c.start.ensures in
     let v : c.take.result ≡ g.M.Method.takes w i = c.take.ensures ∙ ap (λ n. g.M.Method.takes n i) e in
     let most : c.take.result ≤ w = subst (λ n. n ≤ w) (sym v) (g.met.M.Method.due w i) in
     record {
