@@ -1,6 +1,7 @@
 -- What the making of a talker and two listeners promises.
 use Rattle.std.specs.Prelude.{◌≡◌, ℕ, List, Result}
 use Rattle.faults.specs.declared.packets.PacketFault.{PacketFault}
+use Rattle.kinds.specs.declared.kind.Kind.{Ghosts}
 use Rattle.plans.specs.declared.plan.Plan.{Plan}
 use Rattle.plans.specs.Streams.{Stream}
 use Rattle.talkers.specs.declared.fault.SendFault.{SendFault}
@@ -15,11 +16,11 @@ use Rattle.streams.specs.Laws.{LawFromTheMaking}
 use Rattle.streams.specs.Runs.{Three, fresh}
 
 -- the three as runs speak of them
-abbrev pub three : {X M U : Type 0} → Trio X M U → Three
+abbrev pub three : {X M U : Type 0} {K : Ghosts X U} → Trio X M U K → Three
 three t = record { talker = talker_state t.talker; listener1 = listener_state t.first; listener2 = listener_state t.second }
 
 -- the three are fresh, made of what was given, and on that plan
-pub record MadeOf {X M U : Type 0} (plan : Plan X U) (method : M) (sid delay : ℕ) (t : Trio X M U) : Type 0 where
+pub record MadeOf {X M U : Type 0} {K : Ghosts X U} (plan : Plan X U K) (method : M) (sid delay : ℕ) (t : Trio X M U K) : Type 0 where
   pub talker_plan : t.talker.plan ≡ plan
   pub first_plan : t.first.plan ≡ plan
   pub second_plan : t.second.plan ≡ plan

@@ -1,6 +1,7 @@
 -- What a relay answers and leaves: steps of a run, by the talker and then by the first listener.
 use Rattle.std.specs.Prelude.{◌≡◌, ℕ, List, take, Ok, Err, Result}
 use Rattle.faults.specs.declared.packets.PacketFault.{PacketFault}
+use Rattle.kinds.specs.declared.kind.Kind.{Ghosts}
 use Rattle.plans.specs.Streams.{Stream}
 use Rattle.talkers.specs.declared.fault.SendFault.{SendFault}
 use Rattle.talkers.specs.Sending.{Desk, Score}
@@ -36,7 +37,7 @@ module _ {U : Type 0} (d : Desk U) (p : Stream U) (s : Score U) (cycle : ℕ) (b
   Relays (Err fault) = NotSent fault
 
 -- plans, method, SID and delay stay, and so does all of the second listener
-pub record SameMakings {X M U : Type 0} (t u : Trio X M U) : Type 0 where
+pub record SameMakings {X M U : Type 0} {K : Ghosts X U} (t u : Trio X M U K) : Type 0 where
   pub talker : SameDesk t.talker u.talker
   pub first_plan : u.first.plan ≡ t.first.plan
   pub second : u.second ≡ t.second

@@ -1,22 +1,21 @@
 -- A talker and a score as contracts speak of them.
 use Rattle.std.specs.Prelude.{◌≡◌, ℕ, List, Result}
 use Rattle.faults.specs.declared.units.UnitFault.{UnitFault}
-use Rattle.kinds.specs.declared.kind.Kind.{Ghosts as Kind}
-use Rattle.plans.specs.declared.method.Method.{Ghosts as Method}
+use Rattle.kinds.specs.declared.kind.Kind.{Ghosts}
 use Rattle.plans.specs.Streams.{stream}
 use Rattle.talkers.specs.declared.talker.Talker.{Talker}
 use Rattle.talkers.specs.Sending.{Desk, State, Score}
 
 -- what a talker is made of, for a kind and a method that mean this
-abbrev pub desk : {X M U : Type 0} {K : Kind X U} {N : Method M} → ℕ → (U → List ℕ) → (List ℕ → Result U UnitFault) → (ℕ → ℕ → ℕ) → Talker X M U K N → Desk U
+abbrev pub desk : {X M U : Type 0} {K : Ghosts X U} → ℕ → (U → List ℕ) → (List ℕ → Result U UnitFault) → (ℕ → ℕ → ℕ) → Talker X M U K → Desk U
 desk size code heard takes t = record { stream = stream size code heard t.plan; takes = takes; sid = t.sid; delay = t.delay }
 
 -- what it keeps
-abbrev pub state : {X M U : Type 0} {K : Kind X U} {N : Method M} → Talker X M U K N → State
+abbrev pub state : {X M U : Type 0} {K : Ghosts X U} → Talker X M U K → State
 state t = record { place = t.place; last = t.last }
 
 -- two talkers are made of the same
-pub record SameDesk {X M U : Type 0} {K : Kind X U} {N : Method M} (t u : Talker X M U K N) : Type 0 where
+pub record SameDesk {X M U : Type 0} {K : Ghosts X U} (t u : Talker X M U K) : Type 0 where
   pub plan : u.plan ≡ t.plan
   pub method : u.method ≡ t.method
   pub sid : u.sid ≡ t.sid

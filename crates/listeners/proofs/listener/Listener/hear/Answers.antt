@@ -9,7 +9,7 @@ use Rattle.plans.specs.Streams.{stream}
 use Rattle.units.specs.Rows.{row, over}
 use Rattle.listeners.specs.Hearing.{brought, weigh_refusal, Hears}
 use Rattle.listeners.specs.Views.{state}
-use Rattle.listeners.proofs.Hearing.{cycles_before, count_few, count_whole, weighed, not-weighed, as_read}
+use Rattle.listeners.proofs.Hearing.{cycles_before, count_few, count_whole, weighed, not_weighed, as_read}
 use Rattle.listeners.proofs.listener.Listener.hear.Goals as goal
 
 pub returns-in_err-heard : goal.returns-in_err-heard
@@ -20,7 +20,7 @@ returns-in_err-heard g c =
     let packet = c.args.packet.now in
     let e = was_err (weigh_refusal s c.args.cycle packet (state l)) (brought s c.args.cycle packet (state l)) c.in_err-heard.field-0.0 c.in_err-heard.ensures in
     let p = err_from_is_err_and c.from_residual.result c.from_residual.ensures.1 in
-    rw (p.1, p.2) (record { hears = not-weighed s c.args.cycle packet (state l) c.args.list.now _ e; same = refl })
+    rw (p.1, p.2) (record { hears = not_weighed s c.args.cycle packet (state l) c.args.list.now _ e; same = refl })
 
 pub read_units-requires : goal.read_units-requires
 read_units-requires g c =
@@ -63,7 +63,7 @@ invariant_of-self g c =
     let few : h.blocks ≤ 32 = subst (λ n. n ≤ 32) (sym (ap (λ x. x.blocks) o.1)) (count_few s packet w.1) in
     let small : h.gap ≤ 255 = omega (arith, gap) in
     let before = cycles_before c.args.cycle l.last w.0 in
-    (omega (arith, l.whole), (omega (arith, l.paced), (omega arith, tt)))
+    record { whole = omega (arith, l.whole); paced = omega (arith, l.paced); early = omega arith }
 
 pub returns : goal.returns
 returns g c =
