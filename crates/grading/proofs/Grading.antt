@@ -1,11 +1,11 @@
 -- How a graded reel follows from its check and the hearing of its records.
-use Rattle.std.proofs.Common.{◌≡◌, ℕ, true, false, cond, eqb, List, Some, None, Ok, Err, Option, sym, refl, ap, ◌∙◌}
+use Rattle.std.proofs.Common.{◌≡◌, ℕ, true, false, cond, eqb, List, Some, None, Ok, Err, sym, ap}
 use Rattle.am824.specs.Codes.{code as am824_code}
 use Rattle.am824.specs.Reading.{heard as am824_heard}
 use Rattle.faults.specs.Outcomes.{answered, changed}
 use Rattle.pack.specs.Codes.{code as pack_code, heard as pack_heard}
 use Rattle.pack.specs.declared.unit.PackUnit.{PackUnit}
-use Rattle.plans.specs.Streams.{Stream, stream}
+use Rattle.plans.specs.Streams.{stream}
 use Rattle.quadlets.specs.declared.unit.Am824Unit.{Am824Unit}
 use Rattle.records.specs.declared.fault.ReelFault.{ReelFault}
 use Rattle.records.specs.Checking.{trailer, reel_records, check_refusal, Names}

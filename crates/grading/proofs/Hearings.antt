@@ -1,5 +1,5 @@
 -- Records heard in order, one record more.
-use Rattle.std.proofs.Common.{◌≡◌, ℕ, ◌+◌, List, [], ◌∷◌, ◌++◌, length, Some, None, fold, sum_by, Option, sym, refl, ap, ◌∙◌, arith}
+use Rattle.std.proofs.Common.{◌≡◌, ℕ, ◌+◌, List, [], ◌∷◌, ◌++◌, length, Some, None, fold, sum_by, Option, refl, ap, arith}
 use Rattle.std.proofs.lemmas.List.Sums.{sum_by-cons}
 use Rattle.faults.specs.declared.packets.PacketFault.{PacketFault}
 use Rattle.faults.specs.declared.records.RecordPosition.{RecordPosition}

@@ -1,5 +1,5 @@
 -- A run over the records of some bytes, as far as it has come.
-use Rattle.std.proofs.Common.{◌≡◌, ℕ, ◌+◌, ◌*◌, ◌≤◌, true, false, List, [], ◌∷◌, ◌++◌, length, drop, fold, sum_by, sym, refl, ap, ◌∙◌, subst, zero-add, arith}
+use Rattle.std.proofs.Common.{◌≡◌, ℕ, ◌*◌, ◌≤◌, true, false, List, [], ◌∷◌, ◌++◌, length, drop, fold, sum_by, sym, refl, ap, ◌∙◌, subst, zero-add, arith}
 use Rattle.std.proofs.lemmas.List.Sums.{fold_push}
 use Rattle.faults.specs.declared.records.RecordPosition.{RecordPosition}
 use Rattle.plans.specs.Streams.{Stream}

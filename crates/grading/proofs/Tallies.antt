@@ -1,5 +1,5 @@
 -- One answer more.
-use Rattle.std.proofs.Common.{◌≡◌, ℕ, ◌+◌, ◌≤◌, max, cond, ltb, List, [], ◌∷◌, ◌++◌, length, is_err, Some, None, Ok, Err, sym, refl, ap, ◌∙◌, add-zero, arith}
+use Rattle.std.proofs.Common.{◌≡◌, ℕ, ◌≤◌, max, cond, ltb, List, [], ◌∷◌, ◌++◌, length, is_err, Some, Ok, Err, refl, ◌∙◌, add-zero}
 use native.Mathlib.Nat.{max-zero}
 use Rattle.std.proofs.lemmas.List.Sums.{sum_by_push, fold_push, count_by-le-length}
 use Rattle.std.specs.Option.{option_or}

@@ -1,5 +1,5 @@
 -- Records heard in order by one listener, into one list.
-use Rattle.std.specs.Prelude.{ℕ, ◌+◌, ◌*◌, List, [], ◌∷◌, length, Ok, Err, fold, Option, Result}
+use Rattle.std.specs.Prelude.{◌+◌, ◌*◌, List, [], ◌∷◌, length, Ok, Err, fold, Option, Result}
 use Rattle.faults.specs.declared.packets.PacketFault.{PacketFault}
 use Rattle.faults.specs.declared.records.RecordFault.{RecordFault}
 use Rattle.faults.specs.declared.records.RecordPosition.{RecordPosition}

@@ -1,5 +1,5 @@
 -- What was captured is what the check finds.
-use Rattle.std.proofs.Common.{◌≡◌, ℕ, ◌+◌, ◌*◌, ◌/◌, ◌%◌, ◌<◌, ◌≤◌, true, false, ltb, List, [], ◌∷◌, ◌++◌, length, take, drop, None, sym, refl, ap, ◌∙◌, subst, arith}
+use Rattle.std.proofs.Common.{◌≡◌, ℕ, ◌+◌, ◌*◌, ◌/◌, ◌%◌, ◌<◌, ◌≤◌, true, ltb, List, [], ◌∷◌, ◌++◌, length, take, drop, None, sym, refl, ap, ◌∙◌, subst, arith}
 use Rattle.std.proofs.lemmas.List.{length-append, get_or-append-add, take_at, drop_at}
 use Rattle.std.proofs.lemmas.List.Sums.{sum_by-take-le}
 use Rattle.std.proofs.lemmas.Bool.{cond-false, le-ltb, le-leb, eq-eqb, or_from, or_parts, ltb-false, not_from_true}
@@ -18,7 +18,7 @@ use Rattle.reels.specs.Records.{Record, Fits, record_bytes, size_of, extent, las
 use Rattle.reels.specs.Trailers.{trailer_bytes, trailer_of, reel_bytes}
 use Rattle.reels.proofs.Captures.{holds, closed_reel, has_room, length_trailer}
 use Rattle.reels.proofs.Records.{length_record, length_records, six_each}
-use Rattle.records.specs.Checking.{fault, size_of_event, bad_length, plan_fault, trailer_place, trailer, reel_records, trailer_refusal, records_refusal, checked}
+use Rattle.records.specs.Checking.{size_of_event, bad_length, plan_fault, trailer_place, trailer, reel_records, trailer_refusal, records_refusal, checked}
 use Rattle.records.specs.Laws.{Found, CapturedIsFound}
 use Rattle.records.specs.Reading.{byte, two, four, front_size, whole, front, up_to, records}
 use Rattle.records.proofs.Reading.{records_more}

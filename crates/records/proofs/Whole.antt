@@ -1,13 +1,13 @@
 -- A reel that is accepted is the bytes of its records and of its trailer.
-use Rattle.std.proofs.Common.{◌≡◌, ℕ, zero, suc, ◌+◌, ◌-◌, ◌*◌, ◌/◌, ◌%◌, ◌<◌, ◌≤◌, Bool, true, false, not, ◌||◌, eqb, ltb, List, [], ◌∷◌, ◌++◌, length, get_or, take, drop, IfOk, None, Ok, Err, Result, sym, refl, ap, ◌∙◌, subst, ⊎_elim, arith, lit<}
+use Rattle.std.proofs.Common.{◌≡◌, ℕ, zero, suc, ◌+◌, ◌*◌, ◌/◌, ◌%◌, ◌<◌, ◌≤◌, Bool, true, false, not, ◌||◌, eqb, ltb, List, [], ◌∷◌, ◌++◌, length, take, drop, IfOk, None, Ok, Err, Result, sym, refl, ap, ◌∙◌, subst, ⊎_elim, arith, lit<}
 use Rattle.std.proofs.lemmas.List.{drop_more, drop_all, drop-drop, get_or-drop, get_or-take, get_or_past, length-drop, length-take, length-take-le, take-append-drop, append_assoc, append-nil}
 use Rattle.std.proofs.lemmas.List.Sums.{sum_by-cons}
 use Rattle.std.proofs.lemmas.Bool.{cases_lt, or_parts, not-false, eqb-true, ltb-false, leb-true}
 use Rattle.std.specs.List.{flat_map}
 use Rattle.faults.proofs.Outcomes.{was_ok, none_refused, neither_refused}
 use Rattle.reels.specs.Bytes.{bytes2, bytes4}
-use Rattle.reels.specs.Records.{Record, record_bytes, size_of, extent, last_place}
-use Rattle.reels.specs.Trailers.{Trailer, trailer_bytes, trailer_of, reel_bytes}
+use Rattle.reels.specs.Records.{record_bytes, size_of, extent, last_place}
+use Rattle.reels.specs.Trailers.{Trailer, trailer_bytes, trailer_of}
 use Rattle.records.specs.declared.checked.Checked.{Checked}
 use Rattle.records.specs.declared.fault.ReelFault.{ReelFault}
 use Rattle.records.specs.Checking.{bad_length, trailer_place, trailer, reel_records, trailer_refusal, records_refusal, check_refusal, checked}

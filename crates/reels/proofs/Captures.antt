@@ -17,7 +17,7 @@ use Rattle.reels.specs.Full.{too_long, full_refusal}
 use Rattle.reels.specs.Plans.{event_of, sfc_of, dimension_of}
 use Rattle.reels.specs.Records.{Record, Fits, record_bytes, size_of, extent}
 use Rattle.reels.specs.Trailers.{Trailer, trailer_bytes, trailer_of, reel_bytes}
-use Rattle.reels.specs.Writing.{Open, view, opened, grown, written, Appends, Closed}
+use Rattle.reels.specs.Writing.{Open, view, grown, written, Appends, Closed}
 use Rattle.reels.proofs.Records.{length_record, last_place_push}
 
 -- records and a trailer that are not refused fit

@@ -1,5 +1,5 @@
 -- A capture: all that is done to an open reel and its bytes from the opening on.
-use Rattle.std.specs.Prelude.{◌≡◌, ℕ, ◌<◌, List, [], ◌∷◌, ◌++◌, length, take, None, Ok, Err}
+use Rattle.std.specs.Prelude.{◌≡◌, ℕ, ◌<◌, List, [], ◌∷◌, ◌++◌, take, None, Ok, Err}
 use Rattle.plans.specs.Planning.{plan_refusal}
 use Rattle.reels.specs.declared.full.ReelFull.{ReelFull}
 use Rattle.reels.specs.declared.plan.ReelPlan.{ReelPlan}

@@ -1,6 +1,5 @@
 -- The records of a reel, and their bytes.
 use Rattle.std.specs.Prelude.{ℕ, ◌+◌, ◌<◌, Bool, true, not, ◌&&◌, List, [], ◌∷◌, ◌++◌, length, take, Some, None, sum_by, Option}
-use Rattle.std.specs.List.{flat_map}
 use Rattle.clock.specs.Cycles.{not_later}
 use Rattle.reels.specs.Bytes.{bytes2, bytes4}
 

@@ -1,5 +1,5 @@
 -- Each send and each hearing of the worked run is one by its meaning.
-use Rattle.std.proofs.Common.{◌≡◌, ℕ, zero, suc, ◌+◌, ◌*◌, replicate, Some, Ok, refl}
+use Rattle.std.proofs.Common.{ℕ, zero, suc, ◌+◌, ◌*◌, replicate, Some, Ok, refl}
 use Rattle.talkers.specs.Sending.{Sends}
 use Rattle.listeners.specs.Hearing.{State as Listener, Hears}
 use Rattle.streams.specs.Runs.{Three, fresh_listener}

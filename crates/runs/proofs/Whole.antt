@@ -1,5 +1,5 @@
 -- The worked run, packet by packet.
-use Rattle.std.proofs.Common.{◌≡◌, ℕ, ◌+◌, refl}
+use Rattle.std.proofs.Common.{ℕ, ◌+◌, refl}
 use Rattle.quadlets.specs.declared.unit.Am824Unit.{Am824Unit}
 use Rattle.listeners.specs.Hearing.{State as Listener}
 use Rattle.streams.specs.Runs.{first, second, Calls, ◌then◌, Run, made, goes_on}

@@ -1,7 +1,6 @@
 -- What the worked runs share: AM824, one unit a block, and samples that count up.
 use Rattle.std.specs.Prelude.{ℕ, min, List, map}
 use Rattle.std.specs.List.{range_with_len}
-use Rattle.kinds.specs.declared.bits24.Bits24.{Bits24}
 use Rattle.quadlets.specs.declared.unit.Am824Unit.{Am824Unit}
 use Rattle.quadlets.specs.declared.unit.Am824Unit.TheVariants.{Raw24}
 use Rattle.am824.specs.Codes.{code}

@@ -4,7 +4,6 @@ use Rattle.std.specs.List.{range_with_len}
 use Rattle.quadlets.specs.declared.unit.Am824Unit.{Am824Unit}
 use Rattle.plans.specs.Streams.{Stream}
 use Rattle.talkers.specs.Sending.{Desk, Score, State as Talker, packet}
-use Rattle.listeners.specs.declared.heard.Heard.{Heard}
 use Rattle.streams.specs.Runs.{Who, first, second, Call, sends, hears, Calls, none_yet, ◌then◌, Three, packets, named_missing, Admitted, Run}
 use Rattle.streams.specs.Laws.{numbers, left_unsent, left_numbers, lacking}
 use Rattle.runs.specs.Desks.{at_rate, desk_at, sample, samples}

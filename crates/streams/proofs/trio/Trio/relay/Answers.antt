@@ -7,7 +7,7 @@ use Rattle.listeners.specs.declared.heard.Heard.{Heard}
 use Rattle.listeners.specs.Hearing.{State as Listener, Hears}
 use Rattle.streams.specs.Making.{three}
 use Rattle.streams.specs.Relays.{heard_as}
-use Rattle.streams.specs.Runs.{Three, Call, Step}
+use Rattle.streams.specs.Runs.{Three, Step}
 use Rattle.streams.proofs.trio.Trio.relay.Goals as goal
 
 -- a hearing by the first listener is a step, whatever it answers
