@@ -3,7 +3,7 @@ use Rattle.std.proofs.Common.{◌≡◌, ℕ, ◌+◌, ◌*◌, ◌/◌, ◌%◌
 use Rattle.std.proofs.lemmas.List.{length-append, get_or-append-add, take_at, drop_at}
 use Rattle.std.proofs.lemmas.List.Sums.{sum_by-take-le}
 use Rattle.std.proofs.lemmas.Bool.{cond-false, le-ltb, le-leb, eq-eqb, or_from, or_parts, ltb-false, not_from_true}
-use Rattle.std.specs.List.{flat_map, AllByRecursion as All}
+use Rattle.std.specs.List.{flat_map, AllByRecursion}
 use Rattle.std.specs.Option.{option_or}
 use Rattle.faults.specs.Outcomes.{answered}
 use Rattle.faults.proofs.Outcomes.{none_refused}
@@ -35,7 +35,7 @@ four_back x h =
     omega (arith, a, b, c)
 
 -- the records of bytes that are nothing but records
-pub records_back : (rs : List Record) → All Fits rs → records (flat_map record_bytes rs) ≡ rs
+pub records_back : (rs : List Record) → AllByRecursion Fits rs → records (flat_map record_bytes rs) ≡ rs
 unfolding up_to
 records_back [] tt = refl
 records_back (r ∷ rs) (f, fs) =
@@ -66,7 +66,7 @@ last_small : (rs : List Record) → extent rs < 4294967296 → last_place rs < 4
 last_small [] h = omega arith
 last_small (r ∷ rs) h = omega (arith, sum_by-take-le size_of (r ∷ rs) (length rs))
 
-module _ (event sfc dimension : ℕ) (rs : List Record) (fit : All Fits rs) (short : extent rs + 12 ≤ 65536) (typed : event ≤ 1)
+module _ (event sfc dimension : ℕ) (rs : List Record) (fit : AllByRecursion Fits rs) (short : extent rs + 12 ≤ 65536) (typed : event ≤ 1)
     (planned : plan_refusal (size_of_event event) sfc dimension ≡ None) (small : dimension < 65536) where
   abbrev front_part : List ℕ
   front_part = flat_map record_bytes rs
@@ -119,7 +119,7 @@ planned_small size sfc dimension h e =
     let b = none_refused (bad_dimension size sfc dimension) Dimension None a.1 in
     omega (arith, dimension_most sfc dimension size h (ltb-false _ _ (or_parts _ _ b.0).1))
 
-found_by : (p : ReelPlan) (rs : List Record) → All Fits rs → extent rs + 12 ≤ 65536 → Planned p → Found p rs (reel_bytes (event_of p) (sfc_of p) (dimension_of p) rs)
+found_by : (p : ReelPlan) (rs : List Record) → AllByRecursion Fits rs → extent rs + 12 ≤ 65536 → Planned p → Found p rs (reel_bytes (event_of p) (sfc_of p) (dimension_of p) rs)
 found_by (Am824 p) rs f s q =
     let small = planned_small 1 p.sfc p.dimension (omega arith) q in
     record { bytes = refl; answer = answer 0 p.sfc p.dimension rs f s (omega arith) q small; records = found 0 p.sfc p.dimension rs f s (omega arith) q small; trailer = told 0 p.sfc p.dimension rs f s (omega arith) q small }

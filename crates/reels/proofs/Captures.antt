@@ -5,7 +5,7 @@ use Rattle.std.proofs.ByRecursion.{All-append}
 use Rattle.std.proofs.lemmas.List.{length_push, take_all, flat_map_more}
 use Rattle.std.proofs.lemmas.List.Sums.{sum_by_push}
 use Rattle.std.proofs.lemmas.Bool.{or_parts, ltb-false}
-use Rattle.std.specs.List.{flat_map, AllByRecursion as All}
+use Rattle.std.specs.List.{flat_map, AllByRecursion}
 use Rattle.faults.specs.Outcomes.{changed}
 use Rattle.faults.proofs.Outcomes.{was_ok, was_err, none_refused}
 use Rattle.reels.specs.declared.full.ReelFull.{ReelFull}
@@ -45,7 +45,7 @@ module _ (p : ReelPlan) where
     pub records : take o.used bytes ≡ flat_map record_bytes rs
     pub used : o.used ≡ extent rs
     pub trailer : o.trailer ≡ trailer_of (event_of p) (sfc_of p) (dimension_of p) rs
-    pub fit : All Fits rs
+    pub fit : AllByRecursion Fits rs
 
   module _ (o : Open) (bytes : List ℕ) (rs : List Record) (h : Holds o bytes rs) (r : Record) where
     grows : r.cycle < 4294967296 → Room (o.used + size_of r) (length bytes) → Holds (grown o r) (written bytes o.used (record_bytes r)) (rs ++ r ∷ [])

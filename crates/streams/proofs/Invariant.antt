@@ -1,6 +1,6 @@
 -- What holds of a listener, whichever packets it accepted so far.
 use Rattle.std.proofs.Common.{◌≡◌, ℕ, zero, suc, ◌+◌, ◌-◌, ◌<◌, ◌≤◌, cond, eqb, ◌≢◌, ◌⊎◌, ◌↔◌, List, [], ◌∷◌, ◌++◌, map, length, take, drop, Some, None, sym, refl, ap, ◌∙◌, subst, ap₂, inl, inr, ⊎_elim, add_assoc, arith}
-use Rattle.std.specs.List.{AllByRecursion as All, range_with_len}
+use Rattle.std.specs.List.{AllByRecursion, range_with_len}
 use Rattle.std.proofs.lemmas.List.{length_push, length-append, map-append}
 use Rattle.std.proofs.lemmas.List.FromFn.{length-range_with_len, length-map-range_with_len}
 use Rattle.std.proofs.ByRecursion.{All-append, All-weaker}
@@ -48,7 +48,7 @@ module _ {U : Type 0} (d : Desk U) (s : Score U) (ok : DeskLaws d) where
     pub missed_is : x.missed ≡ length named
     pub below : (n : ℕ) → n < start ps r → times n (map number_of handed) + times n named ≡ 1
     pub above : (n : ℕ) → start ps r ≤ n → times n (map number_of handed) + times n named ≡ 0
-    pub right : All (AsInScore d s ps) handed
+    pub right : AllByRecursion (AsInScore d s ps) handed
     pub missing : (j n : ℕ) → Holds ps j n → n < start ps r → (times n named ≡ 1) ↔ (times j acc ≡ 0)
     pub acc_below : (j : ℕ) → r ≤ j → times j acc ≡ 0
 
@@ -191,7 +191,7 @@ module _ {U : Type 0} (d : Desk U) (s : Score U) (ok : DeskLaws d) where
             let some : times j (which ∷ []) ≡ 1 = one_yes j which here in
             (λ e. absurd (omega (arith, named_is)), λ e. absurd (omega (arith, acc_is)))
 
-    right_now : All (AsInScore d s ps) new_blocks
+    right_now : AllByRecursion (AsInScore d s ps) new_blocks
     right_now = All-weaker (BlockRight d s ok (start ps which) q w) (AsInScore d s ps)
         (λ b br. record {
           of_score = br.of_score;

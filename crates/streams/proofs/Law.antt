@@ -1,6 +1,6 @@
 -- Every admitted list of calls keeps the law.
 use Rattle.std.proofs.Common.{◌≡◌, ℕ, zero, suc, ◌+◌, ◌-◌, ◌*◌, ◌%◌, ◌<◌, ◌≤◌, cond, eqb, ltb, List, [], ◌∷◌, ◌++◌, take, drop, Some, None, Ok, count_by, sym, refl, ap, ◌∙◌, subst, ap₂, subst₂, ⊎_elim, arith}
-use Rattle.std.specs.List.{AllByRecursion as All, range_with_len}
+use Rattle.std.specs.List.{AllByRecursion, range_with_len}
 use Rattle.std.proofs.ByRecursion.{all-has}
 use Rattle.std.proofs.lemmas.List.Sums.{count_by-le-length, sum_by-cons}
 use Rattle.std.proofs.lemmas.List.FromFn.{length-range_with_len, map-range_with_len_more}
@@ -238,7 +238,7 @@ module _ {U : Type 0} (d : Desk U) (s : Score U) (ok : DeskLaws d) where
     left_blocks_come = comes cs w k;
   }
     where
-      each : (l : Who) → All (AsInScore d s (packets cs)) (handed_out d.stream l cs)
+      each : (l : Who) → AllByRecursion (AsInScore d s (packets cs)) (handed_out d.stream l cs)
       each first = k.first_listens.right
       each second = k.second_listens.right
 

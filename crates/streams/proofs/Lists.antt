@@ -1,6 +1,6 @@
 -- Due blocks, and how often a number stands in a list.
 use Rattle.std.proofs.Common.{◌≡◌, ℕ, zero, suc, ◌+◌, ◌<◌, ◌≤◌, true, cond, eqb, leb, ◌≢◌, ◌⊎◌, List, [], ◌∷◌, ◌++◌, length, get_or, sym, refl, ◌∙◌, inl, inr, ⊎_elim, arith}
-use Rattle.std.specs.List.{AllByRecursion as All, range_with_len}
+use Rattle.std.specs.List.{AllByRecursion, range_with_len}
 use Rattle.std.proofs.lemmas.List.Sums.{sum_by-cons, sum_by-append}
 use Rattle.std.proofs.lemmas.Bool.{cases_Bool, cond-true, cond-false, leb-true, eq-eqb, ne_eqb, le-leb, cases_eq}
 use Rattle.talkers.specs.Sending.{due}
@@ -54,6 +54,6 @@ times_in n a (suc k) l h = ⊎_elim
     sum_by-cons (hit n) a (range_with_len (a + 1) k) ∙ omega arith)
     (cases_eq n a)
 
-pub all_counting : (P : ℕ → Type 0) (a k : ℕ) → ((i : ℕ) → a ≤ i → i < a + k → P i) → All P (range_with_len a k)
+pub all_counting : (P : ℕ → Type 0) (a k : ℕ) → ((i : ℕ) → a ≤ i → i < a + k → P i) → AllByRecursion P (range_with_len a k)
 all_counting P a zero h = tt
 all_counting P a (suc k) h = (h a (omega arith) (omega arith), all_counting P (a + 1) k (λ i l m. h i (omega arith) (omega arith)))

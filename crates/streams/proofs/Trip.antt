@@ -1,7 +1,7 @@
 -- What a listener hears of what a talker sent: the packet comes back as it was made.
 use Rattle.std.proofs.Common.{◌≡◌, ℕ, ◌+◌, ◌-◌, ◌*◌, ◌/◌, ◌%◌, ◌<◌, ◌≤◌, true, false, cond, ◌&&◌, eqb, ltb, leb, List, [], ◌++◌, length, get_or, take, drop, Some, None, Ok, Option, sym, ap, ◌∙◌, subst, ⊎_elim, mul_assoc, mul_comm, mul-le-mul_left, mul-pos, arith}
 use native.Mathlib.Nat.{mul-div_left}
-use Rattle.std.specs.List.{flat_map, AllByRecursion as All, range_with_len}
+use Rattle.std.specs.List.{flat_map, AllByRecursion, range_with_len}
 use Rattle.std.proofs.ByRecursion.{All-map}
 use Rattle.std.proofs.lemmas.List.{length-append, length-take-le, length-drop, take_at, drop-append-le, take-append-le, drop-take, drop-drop, take-take, get_or-drop, append-nil}
 use Rattle.std.proofs.lemmas.List.Sums.{prefix_len-le-length}
@@ -271,7 +271,7 @@ module _ {U : Type 0} (d : Desk U) (s : Score U) (ok : DeskLaws d) where
           without_time = subst (λ n. ¬ (DueATime d s q.cycle n) → time_told ≡ None) (sym number) times.1;
         }
 
-    pub blocks_back : (g : ℕ) (a : Heard) (list' : List U) → HeardWell place q g a list' → All BlockRight (blocks_heard d.stream q.bytes a list')
+    pub blocks_back : (g : ℕ) (a : Heard) (list' : List U) → HeardWell place q g a list' → AllByRecursion BlockRight (blocks_heard d.stream q.bytes a list')
     blocks_back g a list' h =
         All-map BlockRight (block_heard d.stream q.bytes a list') (range_with_len 0 a.blocks)
         (all_counting (λ i. BlockRight (block_heard d.stream q.bytes a list' i)) 0 a.blocks (λ i _ l. block_back g a list' h i (omega (arith, h.count_is))))

@@ -1,6 +1,6 @@
 -- What holds of each admitted list of calls.
 use Rattle.std.specs.Prelude.{◌≡◌, ℕ, ◌+◌, ◌-◌, ◌*◌, ◌%◌, ◌<◌, ◌≤◌, ◌↔◌, List, [], map, length, take, drop, Some, None, count_by, nat_eq, nat_lt}
-use Rattle.std.specs.List.{ContainsAt as Has, AllByRecursion as All, range_with_len}
+use Rattle.std.specs.List.{ContainsAt, AllByRecursion, range_with_len}
 use Rattle.clock.specs.Ticks.{start as tick}
 use Rattle.plans.specs.Streams.{Stream, every}
 use Rattle.talkers.specs.Sending.{Desk, Score, due, presented}
@@ -57,10 +57,10 @@ module _ {U : Type 0} (d : Desk U) (s : Score U) where
     pub without_time : ¬ (DueATime (packet_at ps packet).cycle b.number) → b.time ≡ None
 
   abbrev pub HandedOutAsInScore : Calls U → Type 0
-  HandedOutAsInScore cs = (l : Who) → All (AsInScore (packets cs)) (handed_out d.stream l cs)
+  HandedOutAsInScore cs = (l : Who) → AllByRecursion (AsInScore (packets cs)) (handed_out d.stream l cs)
 
   abbrev pub AlikeInBoth : Calls U → Type 0
-  AlikeInBoth cs = (a b : Block U) → Has (handed_out d.stream first cs) a → Has (handed_out d.stream second cs) b → a.number ≡ b.number → a ≡ b
+  AlikeInBoth cs = (a b : Block U) → ContainsAt (handed_out d.stream first cs) a → ContainsAt (handed_out d.stream second cs) b → a.number ≡ b.number → a ≡ b
 
   -- each number below the end is handed out or named missing, once in all, and no other number is
   pub record AccountedOnce (l : Who) (cs : Calls U) : Type 0 where
