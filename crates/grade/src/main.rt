@@ -8,6 +8,7 @@ use quadlets::Am824Unit;
 use reports::line_of;
 use std::io;
 use std::io::Read;
+use std::process::ExitCode;
 
 /// Reads standard input to its end. Of what is longer than a reel may be it keeps one byte too many,
 /// so that it is refused and not cut.
@@ -29,10 +30,12 @@ fn run(rt: &HostRuntime) -> anyhow::Result<()> {
     Ok(())
 }
 
-fn main(rt: HostRuntime) -> anyhow::Result<()> {
-    let end = run(&rt);
-    if let Err(error) = &end {
-        eprintln!(rt; "grade: {error}")?;
+fn main(rt: HostRuntime) -> ExitCode {
+    match run(&rt) {
+        Ok(()) => ExitCode::SUCCESS,
+        Err(error) => {
+            let _ = eprintln!(rt; "grade: {error}");
+            ExitCode::FAILURE
+        }
     }
-    end
 }
