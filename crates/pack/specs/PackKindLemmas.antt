@@ -1,3 +1,4 @@
+-- Twelve bytes are those of their pack, three at a time.
 use Rattle.std.specs.Prelude.{◌≡◌, ℕ, ◌+◌, ◌*◌, ◌/◌, ◌%◌, ◌<◌, List, [], ◌∷◌, length}
 use Rattle.std.proofs.Common.{arith}
 use Rattle.kinds.specs.Bits.{bytes, from_bytes}

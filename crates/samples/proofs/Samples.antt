@@ -6,7 +6,7 @@ use Rattle.kinds.specs.Bits.{number, twos, from_field}
 use Rattle.kinds.specs.Nibbles.{value, low}
 use Rattle.kinds.proofs.Nibbles.{value_low}
 use Rattle.quadlets.specs.declared.unit.Am824Unit.{Am824Unit}
-use Rattle.am824.specs.Codes.{code as code_of_lem}
+use Rattle.am824.specs.Codes.{code as code_of}
 use Rattle.samples.specs.Samples.{no_sample, raw_field, raw_bytes, raw_of}
 
 module _ (code : ℕ) (z : ℤ) (h : no_sample code z ≡ false) (e : number (from_field (twos z)) ≡ z) where
@@ -27,10 +27,10 @@ module _ (code : ℕ) (z : ℤ) (h : no_sample code z ≡ false) (e : number (fr
   laid : (k b c d : ℕ) → code ≡ k → b ≡ twos z / 65536 → c ≡ twos z / 256 % 256 → d ≡ twos z % 256 → (0x40 + k) ∷ b ∷ c ∷ d ∷ [] ≡ raw_bytes code z
   laid k b c d p q r s = λ i. (0x40 + sym p i) ∷ q i ∷ r i ∷ s i ∷ []
 
-  pub bytes_of_raw : code_of_lem (raw_field code (twos z)) ≡ raw_bytes code z
+  pub bytes_of_raw : code_of (raw_field code (twos z)) ≡ raw_bytes code z
   bytes_of_raw =
       let n = twos z in
-      let P : Am824Unit → Type 0 = λ u. code_of_lem u ≡ raw_bytes code z in
+      let P : Am824Unit → Type 0 = λ u. code_of u ≡ raw_bytes code z in
       cond_both (eqb code 0) _ _ P (λ t. laid 0 (n / 65536) (n % 65536 / 256) (n % 65536 % 256) (eqb-true code 0 t) refl (omega arith) (omega arith))
       (λ f. cond_both (eqb code 1) _ _ P
       (λ t. let v = value_low (n / 16) in let m : n % 16 ≡ 0 = grind (arith, nat_tests) in laid 1 (n / 256 / 256) (n / 256 % 256) (16 * value (low (n / 16))) (eqb-true code 1 t) (omega arith) refl (omega arith))
