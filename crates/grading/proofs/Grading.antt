@@ -28,8 +28,8 @@ module _ (reel : List ℕ) (quadlets : List Am824Unit) (packs : List PackUnit) w
     pub grades_by : (p : ReelPlan) → Names (trailer reel) p → Grades reel quadlets packs (Ok (report_by p rs quadlets packs)) (quadlets_by p rs quadlets) (packs_by p rs packs)
     grades_by (Am824 p) n =
         let t = trailer reel in
-        let same : stream 1 am824_code am824_heard p ≡ am824_stream t =
-        λ i. record { size = 1; code = am824_code; heard = am824_heard; sfc = n.1 i; dimension = n.2 i; quadlets = n.3 i; event = n.4 i } in
+        let same : stream p ≡ am824_stream t =
+        λ i. record { size = 1; code = am824_code; heard = am824_heard; event = 0; sfc = n.1 i; dimension = n.2 i } in
         let typed : true ≡ eqb t.event 0 = ap (λ k. eqb k 0) (sym n.0) in
         record {
           answer = λ i. answered (sym e i) (cond (typed i) (report (same i) quadlets (h i)) (report (pack_stream t) packs (reel_records reel)));
@@ -38,8 +38,8 @@ module _ (reel : List ℕ) (quadlets : List Am824Unit) (packs : List PackUnit) w
         }
     grades_by (Pack p) n =
         let t = trailer reel in
-        let same : stream 3 pack_code pack_heard p ≡ pack_stream t =
-        λ i. record { size = 3; code = pack_code; heard = pack_heard; sfc = n.1 i; dimension = n.2 i; quadlets = n.3 i; event = n.4 i } in
+        let same : stream p ≡ pack_stream t =
+        λ i. record { size = 3; code = pack_code; heard = pack_heard; event = 1; sfc = n.1 i; dimension = n.2 i } in
         let typed : false ≡ eqb t.event 0 = ap (λ k. eqb k 0) (sym n.0) in
         record {
           answer = λ i. answered (sym e i) (cond (typed i) (report (am824_stream t) quadlets (reel_records reel)) (report (same i) packs (h i)));

@@ -21,8 +21,8 @@ fn hear_record<K: Kind>(
     position: RecordPosition,
     list: &mut [K::Unit],
 ) -> Result<Heard, RecordFault>
-    ensures answer { result ≡ of_record position (answer_of (stream K.size K.code K.heard listener.old.plan) (record { state = state listener.old; list = list.old }) (record { cycle = next.entry.cycle; packet = next.entry.packet.now })) }
-    ensures left { record { state = state listener.new; list = list.new } ≡ after (stream K.size K.code K.heard listener.old.plan) (record { state = state listener.old; list = list.old }) (record { cycle = next.entry.cycle; packet = next.entry.packet.now }) }
+    ensures answer { result ≡ of_record position (answer_of (stream listener.old.plan) (record { state = state listener.old; list = list.old }) (record { cycle = next.entry.cycle; packet = next.entry.packet.now })) }
+    ensures left { record { state = state listener.new; list = list.new } ≡ after (stream listener.old.plan) (record { state = state listener.old; list = list.old }) (record { cycle = next.entry.cycle; packet = next.entry.packet.now }) }
     ensures same { listener.new.plan ≡ listener.old.plan }
 {
     Ok(listener.hear(next.cycle, next.packet, list).at(position)?)
@@ -59,8 +59,8 @@ fn report_of<K: Kind>(listener: &Listener<K>, tally: Tally, interval: u8) -> Rep
 /// Hears the records of some bytes in order with a new listener, and reports the run.
 pub(crate) fn hear_records<K: Kind>(plan: Plan<K>, bytes: &[u8], list: &mut [K::Unit]) -> Report
     requires { length bytes.now ≤ 65536 }
-    ensures report { result ≡ report (stream K.size K.code K.heard plan) list.old (records bytes.now) }
-    ensures list { list.new ≡ left (stream K.size K.code K.heard plan) list.old (records bytes.now) }
+    ensures report { result ≡ report (stream plan) list.old (records bytes.now) }
+    ensures list { list.new ≡ left (stream plan) list.old (records bytes.now) }
 {
     let mut listener = Listener::new(plan);
     let mut tally = Tally::new();

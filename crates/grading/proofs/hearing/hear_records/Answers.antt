@@ -11,7 +11,7 @@ use Rattle.grading.proofs.hearing.hear_records.Goals as goal
 pub count-requires : goal.count-requires
 count-requires g c =
     let k = g.K.Kind in
-    let s = stream k.size k.code k.heard c.args.plan in
+    let s = stream c.args.plan in
     let bs = c.args.bytes.now in
     let list = c.args.list.now in
     let r = c.records.invariant.1 in
@@ -24,7 +24,7 @@ count-requires g c =
 pub place_behind-position-requires : goal.place_behind-position-requires
 place_behind-position-requires g c =
     let k = g.K.Kind in
-    let s = stream k.size k.code k.heard c.args.plan in
+    let s = stream c.args.plan in
     let bs = c.args.bytes.now in
     let p = c.records.position in
     let r = c.records.invariant.1 in
@@ -38,7 +38,7 @@ place_behind-position-requires g c =
 pub records-preserved : goal.records-preserved
 records-preserved g c =
     let k = g.K.Kind in
-    let s = stream k.size k.code k.heard c.args.plan in
+    let s = stream c.args.plan in
     let bs = c.args.bytes.now in
     let p = c.records.position in
     let i = c.records.invariant in
@@ -46,7 +46,7 @@ records-preserved g c =
     let r : Record = record { cycle = c.in-Some.next.cycle; packet = c.in-Some.next.packet.now } in
     let t : Standing g.row.K-Unit.Denot = record { state = state c.records.listener; list = c.records.list } in
     let h = c.hear_record.ensures in
-    let same = ap (stream k.size k.code k.heard) i.0 in
+    let same = ap (stream) i.0 in
     let q = ran_more s bs c.args.list.now _ c.records.tally p i.1 _ (between_to_end bs p.place (length bs) (omega arith)) _ x.0 x.1 in
     let ran = ran_as s bs c.args.list.now
     (h.left ∙ ap (λ z. after z t r) same)
@@ -57,7 +57,7 @@ records-preserved g c =
 pub returns : goal.returns
 returns g c =
     let k = g.K.Kind in
-    let s = stream k.size k.code k.heard c.args.plan in
+    let s = stream c.args.plan in
     let bs = c.args.bytes.now in
     let l = c.records.listener in
     let p = c.records.position in

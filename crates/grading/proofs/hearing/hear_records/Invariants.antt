@@ -7,7 +7,7 @@ use Rattle.grading.proofs.hearing.hear_records.Given as goal
 abbrev pub invariant-records : goal.invariant-records
 invariant-records g l =
     let k = g.K.Kind in
-    (l.listener.plan ≡ l.plan) × Ran (stream k.size k.code k.heard l.plan) l.bytes l.initial.list (record { state = state l.listener; list = l.list }) l.tally l.position × (l.position.place ≤ length l.bytes)
+    (l.listener.plan ≡ l.plan) × Ran (stream l.plan) l.bytes l.initial.list (record { state = state l.listener; list = l.list }) l.tally l.position × (l.position.place ≤ length l.bytes)
 
 abbrev pub decreases-records : goal.decreases-records
 decreases-records g l = length l.bytes - l.position.place
