@@ -5,6 +5,7 @@ use crate::fault::PlanFault;
 use crate::rate::Rate;
 
 /// The default transfer delay in ticks: a blocking sender also waits for the blocks of an interval.
+// A truth value: a method is known only by the number that it answers, and not by a name.
 pub fn default_delay(sfc: u8, blocking: bool) -> Result<u16, PlanFault>
     ensures { result ≡ default_delay sfc blocking }
 {

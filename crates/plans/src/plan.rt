@@ -12,6 +12,7 @@ mod stamped;
 #[derive(Drop)]
 pub struct Plan<K: Kind> {
     kind: PhantomData<K>,
+    // A code and no enum: a plan keeps the plain numbers that FDF and a trailer carry.
     sfc: u8,
     dimension: u16,
     ghost rated: { sfc ≤ 6 },
