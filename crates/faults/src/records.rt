@@ -1,9 +1,12 @@
-ghost use Rattle.std.specs.Prelude.{◌≡◌};
+ghost use Rattle.std.specs.Prelude.{◌≡◌, Some};
 ghost use Rattle.faults.specs.Records.{told, carried};
+ghost use Rattle.faults.specs.Refusals.{text};
 
 use crate::located::Located;
 use crate::packets::PacketFault;
 use crate::refusals::Refusal;
+use std::error::Error;
+use std::fmt;
 
 /// Where a record stands in a reel: its number from 0, and its first byte.
 #[derive(Clone, Copy, PartialEq, Eq, Debug)]
@@ -30,6 +33,16 @@ impl RecordFault {
         }
     }
 }
+
+impl fmt::Display for RecordFault {
+    ghost output = { λ fault. Some (text (told fault)) };
+
+    fn fmt<W: fmt::Write>(&self, f: &mut fmt::Formatter<W>) -> fmt::Result {
+        self.refusal().fmt(f)
+    }
+}
+
+impl Error for RecordFault {}
 
 impl From<Located<RecordPosition, PacketFault>> for RecordFault {
     ghost from_gives = { λ fault r. r ≡ carried fault };
