@@ -17,7 +17,7 @@ pub struct UnitPosition {
 }
 
 /// Why a packet is refused.
-#[derive(Clone, Copy, PartialEq, Debug)]
+#[derive(Clone, Copy, PartialEq, Eq, Debug)]
 pub enum PacketFault {
     /// The cycle is not later than that of the packet accepted before.
     Cycle,

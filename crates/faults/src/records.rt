@@ -16,7 +16,7 @@ pub struct RecordPosition {
 }
 
 /// Why the packet of a record is refused.
-#[derive(Clone, Copy, PartialEq, Debug)]
+#[derive(Clone, Copy, PartialEq, Eq, Debug)]
 pub struct RecordFault {
     pub position: RecordPosition,
     pub fault: PacketFault,
@@ -28,8 +28,8 @@ impl RecordFault {
         ensures { result ≡ told self.now }
     {
         Refusal {
-            number: self.fault.refusal().number,
             place: self.position.place,
+            ..self.fault.refusal()
         }
     }
 }
@@ -48,9 +48,7 @@ impl From<Located<RecordPosition, PacketFault>> for RecordFault {
     ghost from_gives = { λ fault r. r ≡ carried fault };
 
     fn from(at: Located<RecordPosition, PacketFault>) -> RecordFault {
-        RecordFault {
-            position: at.position,
-            fault: at.fault,
-        }
+        let Located { position, fault } = at;
+        RecordFault { position, fault }
     }
 }

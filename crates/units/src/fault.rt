@@ -7,7 +7,7 @@ use std::error::Error;
 use std::fmt;
 
 /// Why a row is not read.
-#[derive(Clone, Copy, PartialEq, Debug)]
+#[derive(Clone, Copy, PartialEq, Eq, Debug)]
 pub enum RowFault {
     /// The caller's list holds fewer units than are asked for.
     List,
