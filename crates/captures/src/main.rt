@@ -24,6 +24,7 @@ fn show(rt: &HostRuntime, capture: Capture) -> anyhow::Result<()> {
     let length = made.len();
     let same = if made == kept { "as" } else { "not as" };
     println!(rt; "{file}: {length} bytes, {same} it is made here")?;
+    // The library fills lists of the caller's; 1,022 units are enough for any packet.
     let quadlets = &mut [Am824Unit::Midi0; 1022];
     let packs = &mut [PackUnit::SILENCE; 1022];
     let answer = grade_reel(&made, quadlets, packs);

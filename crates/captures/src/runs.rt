@@ -60,6 +60,7 @@ impl<K: Kind> Silence<K> {
         };
         let mut talker = Talker::new(self.plan, NonBlocking, 1, 8_704)?;
         let mut reel = OpenReel::new(&self.reel);
+        // The library writes to bytes of the caller's, and tells at the end how many it took.
         let mut bytes = vec![in rt.alloc(); 0; 8_192]?;
         for cycle in cycles {
             let mut room = [0; 4_096];

@@ -43,6 +43,7 @@ fn show_first(rt: &HostRuntime, first: RecordFault) -> anyhow::Result<()> {
 
 /// Grades one reel and prints its line.
 fn show(rt: &HostRuntime, name: &str, reel: &[u8]) -> anyhow::Result<()> {
+    // The library fills lists of the caller's; 1,022 units are enough for any packet.
     let quadlets = &mut [Am824Unit::Midi0; 1022];
     let packs = &mut [PackUnit::SILENCE; 1022];
     let answer = grade_reel(reel, quadlets, packs);

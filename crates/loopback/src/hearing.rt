@@ -20,6 +20,7 @@ impl fmt::Display for Told<'_> {
     fn fmt<W: fmt::Write>(&self, f: &mut fmt::Formatter<W>) -> fmt::Result {
         let Told { who, cycle, answer } = self;
         write!(f, "{who}, cycle {cycle}: ")?;
+        // Both answers are written, so both have an arm.
         match answer {
             Ok(heard) => {
                 write!(

@@ -11,6 +11,7 @@ fn show_answer(
     call: &str,
     answer: Result<Am824Unit, UnitFault>,
 ) -> anyhow::Result<()> {
+    // Both answers are printed, so both have an arm.
     match answer {
         Ok(unit) => println!(rt; "  {call}: {unit}")?,
         Err(fault) => println!(rt; "  {call}: {fault}")?,

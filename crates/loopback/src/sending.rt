@@ -13,6 +13,7 @@ fn send_all<M: Method + Drop>(
     let mut talker = Talker::new(worked.plan, method, 1, delay)?;
     for cycle in 1..4u32 {
         let mut bytes = [0; 72];
+        // Both answers are printed, so both have an arm.
         match talker.send(worked.score(), cycle, &mut bytes) {
             Ok(Sent { blocks, length }) => {
                 let header = hex(rt.alloc(), &bytes[..8])?;
