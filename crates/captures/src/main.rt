@@ -5,10 +5,10 @@
 
 #![tactic(auto)]
 
+mod capture;
 mod runs;
-mod telling;
 
-use crate::telling::{NAMES, reel_of};
+use crate::capture::Capture;
 use grading::grade_reel;
 use pack::PackUnit;
 use quadlets::Am824Unit;
@@ -17,13 +17,14 @@ use std::io::Write;
 use std::{env, fs};
 
 /// Makes a capture, compares it with the file of its name, and prints its line.
-fn show(rt: &HostRuntime, name: &str) -> anyhow::Result<()> {
-    let made = reel_of(rt, name)?;
-    let file = format!(in rt.alloc(); "{name}.reel")?;
+fn show(rt: &HostRuntime, capture: Capture) -> anyhow::Result<()> {
+    let made = capture.reel(rt)?;
+    let file = format!(in rt.alloc(); "{capture}.reel")?;
     let kept = fs::read(rt, file.as_str())?;
     let length = made.len();
     let same = if made == kept { "as" } else { "not as" };
     println!(rt; "{file}: {length} bytes, {same} it is made here")?;
+    // The library fills lists of the caller's; 1,022 units are enough for any packet.
     let quadlets = &mut [Am824Unit::Midi0; 1022];
     let packs = &mut [PackUnit::SILENCE; 1022];
     let answer = grade_reel(&made, quadlets, packs);
@@ -34,12 +35,13 @@ fn show(rt: &HostRuntime, name: &str) -> anyhow::Result<()> {
 
 fn run(rt: &HostRuntime) -> anyhow::Result<()> {
     if let Some(name) = env::args(rt)?.nth(1) {
-        let made = reel_of(rt, name.as_str())?;
-        rt.stdout().write_all(&made)?;
+        // A name that no capture has gives the clean one.
+        let capture: Capture = name.as_str().parse().unwrap_or_default();
+        rt.stdout().write_all(&capture.reel(rt)?)?;
         return Ok(());
     }
-    for name in NAMES {
-        show(rt, name)?;
+    for capture in Capture::ALL {
+        show(rt, capture)?;
     }
     Ok(())
 }

@@ -4,7 +4,7 @@
 
 ghost use Rattle.std.specs.Prelude.{◌<◌};
 
-use faults::{PacketFault, RecordFault};
+use faults::{Located, PacketFault, RecordFault, UnitPosition};
 use grading::grade_reel;
 use pack::PackUnit;
 use quadlets::Am824Unit;
@@ -15,35 +15,27 @@ use std::alloc::AllocError;
 fn digit(code: u8) -> u8
     ensures { result < 16 }
 {
-    match code {
-        b'0'..=b'9' => code - b'0',
-        b'a'..=b'f' => code - b'a' + 10,
-        _ => 0,
-    }
+    char::from(code).to_digit(16).unwrap_or(0) as u8
 }
 
 /// The bytes of a text of hexadecimal digits, two a byte.
 fn bytes_of(rt: &HostRuntime, text: &str) -> Result<Vec<u8>, AllocError> {
-    let mut bytes = Vec::new(rt.alloc());
-    for pair in text.as_bytes().chunks(2) {
-        if pair.len() == 2 {
-            bytes.push(16 * digit(pair[0]) + digit(pair[1]))?;
-        }
-    }
-    Ok(bytes)
+    let (pairs, _) = text.as_bytes().as_chunks::<2>();
+    pairs
+        .iter()
+        .map(|[high, low]| 16 * digit(*high) + digit(*low))
+        .collect(rt.alloc())
 }
 
 /// Prints the first refusal of a run, with all that it carries.
 fn show_first(rt: &HostRuntime, first: RecordFault) -> anyhow::Result<()> {
-    let number = first.position.number;
-    let refusal = first.refusal();
-    let place = first.fault.refusal().place;
-    print!(rt; "  record {number}: {refusal}, in the packet at {place}")?;
-    if let PacketFault::Unit(at) = first.fault {
-        let block = at.position.block;
-        let unit = at.position.unit;
-        let inside = at.fault.refusal();
-        print!(rt; ", block {block}, unit {unit}: {inside}")?;
+    let RecordFault { position, fault } = first;
+    let number = position.number;
+    let place = fault.refusal().place;
+    print!(rt; "  record {number}: {first}, in the packet at {place}")?;
+    if let PacketFault::Unit(Located { position, fault }) = fault {
+        let UnitPosition { block, unit, .. } = position;
+        print!(rt; ", block {block}, unit {unit}: {fault}")?;
     }
     println!(rt)?;
     Ok(())
@@ -51,15 +43,14 @@ fn show_first(rt: &HostRuntime, first: RecordFault) -> anyhow::Result<()> {
 
 /// Grades one reel and prints its line.
 fn show(rt: &HostRuntime, name: &str, reel: &[u8]) -> anyhow::Result<()> {
+    // The library fills lists of the caller's; 1,022 units are enough for any packet.
     let quadlets = &mut [Am824Unit::Midi0; 1022];
     let packs = &mut [PackUnit::SILENCE; 1022];
     let answer = grade_reel(reel, quadlets, packs);
     let line = line_of(rt.alloc(), answer)?;
     print!(rt; "{name}: {line}")?;
-    if let Ok(report) = answer {
-        if let Some(first) = report.first {
-            show_first(rt, first)?;
-        }
+    if let Some(first) = answer.ok().and_then(|report| report.first) {
+        show_first(rt, first)?;
     }
     Ok(())
 }

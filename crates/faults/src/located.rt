@@ -2,7 +2,7 @@ ghost use Rattle.std.specs.Prelude.{◌≡◌};
 ghost use Rattle.faults.specs.Located.{located as located_at};
 
 /// A fault together with the position at which it arose.
-#[derive(Clone, Copy, PartialEq, Debug)]
+#[derive(Clone, Copy, PartialEq, Eq, Debug)]
 pub struct Located<P, F> {
     pub position: P,
     pub fault: F,
@@ -24,9 +24,6 @@ impl<T, F, P: Drop> Locate<P> for Result<T, F> {
     ghost located = { located_at };
 
     fn at(self, position: P) -> Result<T, Located<P, F>> {
-        match self {
-            Ok(value) => Ok(value),
-            Err(fault) => Err(Located { position, fault }),
-        }
+        self.map_err(|fault| Located { position, fault })
     }
 }

@@ -1,9 +1,12 @@
-ghost use Rattle.std.specs.Prelude.{◌≡◌};
+ghost use Rattle.std.specs.Prelude.{◌≡◌, Some};
 ghost use Rattle.faults.specs.Packets.{told, carried};
+ghost use Rattle.faults.specs.Refusals.{text};
 
 use crate::located::Located;
 use crate::refusals::Refusal;
 use crate::units::UnitFault;
+use std::error::Error;
+use std::fmt;
 
 /// Where a unit stands in a packet: its block, its index in the block, and its first byte.
 #[derive(Clone, Copy, PartialEq, Eq, Debug)]
@@ -14,7 +17,7 @@ pub struct UnitPosition {
 }
 
 /// Why a packet is refused.
-#[derive(Clone, Copy, PartialEq, Debug)]
+#[derive(Clone, Copy, PartialEq, Eq, Debug)]
 pub enum PacketFault {
     /// The cycle is not later than that of the packet accepted before.
     Cycle,
@@ -39,42 +42,29 @@ impl PacketFault {
     pub fn refusal(&self) -> Refusal
         ensures { result ≡ told self.now }
     {
-        match self {
-            PacketFault::Cycle => Refusal {
-                number: 5,
-                place: 0,
-            },
-            PacketFault::Length => Refusal {
-                number: 7,
-                place: 0,
-            },
-            PacketFault::Header => Refusal {
-                number: 8,
-                place: 0,
-            },
-            PacketFault::Format => Refusal {
-                number: 9,
-                place: 5,
-            },
-            PacketFault::Payload => Refusal {
-                number: 10,
-                place: 8,
-            },
-            PacketFault::Stamp => Refusal {
-                number: 11,
-                place: 6,
-            },
-            PacketFault::List => Refusal {
-                number: 12,
-                place: 8,
-            },
-            PacketFault::Unit(at) => {
-                let place = at.position.offset as u32 + at.fault.place as u32;
-                Refusal { number: 13, place }
-            }
-        }
+        let (number, place) = match self {
+            PacketFault::Cycle => (5, 0),
+            PacketFault::Length => (7, 0),
+            PacketFault::Header => (8, 0),
+            PacketFault::Format => (9, 5),
+            PacketFault::Payload => (10, 8),
+            PacketFault::Stamp => (11, 6),
+            PacketFault::List => (12, 8),
+            PacketFault::Unit(at) => (13, at.position.offset as u32 + at.fault.place as u32),
+        };
+        Refusal { number, place }
     }
 }
+
+impl fmt::Display for PacketFault {
+    ghost output = { λ fault. Some (text (told fault)) };
+
+    fn fmt<W: fmt::Write>(&self, f: &mut fmt::Formatter<W>) -> fmt::Result {
+        self.refusal().fmt(f)
+    }
+}
+
+impl Error for PacketFault {}
 
 impl From<Located<UnitPosition, UnitFault>> for PacketFault {
     ghost from_gives = { λ fault r. r ≡ carried fault };

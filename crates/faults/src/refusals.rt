@@ -15,8 +15,7 @@ impl fmt::Display for Refusal {
     ghost output = { λ refusal. Some (text refusal) };
 
     fn fmt<W: fmt::Write>(&self, f: &mut fmt::Formatter<W>) -> fmt::Result {
-        let number = self.number;
-        let place = self.place;
+        let Refusal { number, place } = self;
         write!(f, "refused {number} at {place}")
     }
 }

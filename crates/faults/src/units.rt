@@ -1,7 +1,10 @@
-ghost use Rattle.std.specs.Prelude.{◌≡◌};
+ghost use Rattle.std.specs.Prelude.{◌≡◌, Some};
+ghost use Rattle.faults.specs.Refusals.{text};
 ghost use Rattle.faults.specs.Units.{told};
 
 use crate::refusals::Refusal;
+use std::error::Error;
+use std::fmt;
 
 /// Why a unit cannot be written, read or made.
 #[derive(Clone, Copy, PartialEq, Eq, Debug)]
@@ -69,3 +72,13 @@ impl UnitFault {
         Refusal { number, place }
     }
 }
+
+impl fmt::Display for UnitFault {
+    ghost output = { λ fault. Some (text (told fault)) };
+
+    fn fmt<W: fmt::Write>(&self, f: &mut fmt::Formatter<W>) -> fmt::Result {
+        self.refusal().fmt(f)
+    }
+}
+
+impl Error for UnitFault {}

@@ -22,6 +22,7 @@ fn read_reel(rt: &HostRuntime) -> io::Result<Vec<u8>> {
 
 fn run(rt: &HostRuntime) -> anyhow::Result<()> {
     let reel = read_reel(rt)?;
+    // The library fills lists of the caller's; 1,022 units are enough for any packet.
     let mut quadlets = [Am824Unit::Midi0; 1022];
     let mut packs = [PackUnit::SILENCE; 1022];
     let answer = grade_reel(&reel, &mut quadlets, &mut packs);
@@ -31,6 +32,7 @@ fn run(rt: &HostRuntime) -> anyhow::Result<()> {
 }
 
 fn main(rt: HostRuntime) -> ExitCode {
+    // The line on standard error begins with the program's name, so the answer is not handed on by `?`.
     match run(&rt) {
         Ok(()) => ExitCode::SUCCESS,
         Err(error) => {

@@ -1,122 +1,131 @@
-use crate::worked::{ARRIVALS, delay, plan, silence};
+use crate::worked::Worked;
 use am824::Am824;
 use faults::PacketFault;
 use listeners::{Heard, Listener};
-use plans::{Method, NonBlocking};
+use plans::NonBlocking;
 use quadlets::Am824Unit;
+use std::fmt;
 use streams::Trio;
-use talkers::Score;
+use talkers::Talker;
 
-/// Prints what a listener was brought.
-fn show_heard(rt: &HostRuntime, who: &str, cycle: u32, heard: Heard) -> anyhow::Result<()> {
-    let first = heard.first;
-    let blocks = heard.blocks;
-    let gap = heard.gap;
-    match heard.time {
-        Some(time) => println!(rt;
-            "  {who}, cycle {cycle}: {gap} missing, {blocks} blocks from {first}, stamped for {time}"
-        )?,
-        None => println!(rt;
-            "  {who}, cycle {cycle}: {gap} missing, {blocks} blocks from {first}, no stamp"
-        )?,
-    }
-    Ok(())
-}
-
-/// Prints what a hearing answered, and the units that it handed out.
-fn show_answer(
-    rt: &HostRuntime,
-    who: &str,
+/// What a hearing answered, with the listener's name and the cycle.
+#[derive(Drop)]
+struct Told<'a> {
+    who: &'a str,
     cycle: u32,
     answer: Result<Heard, PacketFault>,
-    list: &[Am824Unit],
-) -> anyhow::Result<()> {
-    match answer {
-        Ok(heard) => {
-            show_heard(rt, who, cycle, heard)?;
-            for block in list.chunks(2).take(heard.blocks as usize) {
-                for unit in block {
-                    print!(rt; "    {unit}")?;
+}
+
+impl fmt::Display for Told<'_> {
+    fn fmt<W: fmt::Write>(&self, f: &mut fmt::Formatter<W>) -> fmt::Result {
+        let Told { who, cycle, answer } = self;
+        write!(f, "{who}, cycle {cycle}: ")?;
+        // Both answers are written, so both have an arm.
+        match answer {
+            Ok(heard) => {
+                write!(
+                    f,
+                    "{} missing, {} blocks from {}, ",
+                    heard.gap, heard.blocks, heard.first
+                )?;
+                match heard.time {
+                    Some(time) => write!(f, "stamped for {time}"),
+                    None => write!(f, "no stamp"),
                 }
-                println!(rt)?;
             }
-        }
-        Err(fault) => {
-            let refusal = fault.refusal();
-            println!(rt; "  {who}, cycle {cycle}: {refusal}")?
+            Err(fault) => write!(f, "{fault}"),
         }
     }
-    Ok(())
 }
 
-/// Lets a listener hear a packet and prints what came of it.
-fn hear(
-    rt: &HostRuntime,
-    who: &str,
-    listener: &mut Listener<Am824>,
-    cycle: u32,
-    packet: &[u8],
-) -> anyhow::Result<()> {
-    let mut list = [Am824Unit::Midi0; 14];
-    let answer = listener.hear(cycle, packet, &mut list);
-    show_answer(rt, who, cycle, answer, &list)
+/// A listener and its name.
+#[derive(Drop)]
+struct Ear {
+    who: &'static str,
+    listener: Listener<Am824>,
 }
 
-/// Prints what a listener has counted.
-fn show_counts(rt: &HostRuntime, who: &str, listener: &Listener<Am824>) -> anyhow::Result<()> {
-    let heard = listener.heard();
-    let missed = listener.missed();
-    println!(rt; "  {who}: {heard} heard, {missed} missed")?;
-    Ok(())
-}
-
-/// Lets the second listener hear the packet of any cycle but 2, in which it is given a unit with a
-/// label that no unit has.
-fn hear_second(
-    rt: &HostRuntime,
-    second: &mut Listener<Am824>,
-    cycle: u32,
-    packet: &mut [u8],
-) -> anyhow::Result<()> {
-    if cycle == 2 && packet.len() > 12 {
-        packet[12] = 0x43;
+impl Ear {
+    /// Hears a packet, and prints what came of it and the units that were handed out.
+    fn hear(&mut self, rt: &HostRuntime, cycle: u32, packet: &[u8]) -> anyhow::Result<()> {
+        let mut list = [Am824Unit::Midi0; 14];
+        let answer = self.listener.hear(cycle, packet, &mut list);
+        let told = Told {
+            who: self.who,
+            cycle,
+            answer,
+        };
+        println!(rt; "  {told}")?;
+        let blocks = answer.map_or(0, |heard| heard.blocks);
+        for block in list.chunks(2).take(blocks as usize) {
+            for unit in block {
+                print!(rt; "    {unit}")?;
+            }
+            println!(rt)?;
+        }
+        Ok(())
     }
-    hear(rt, "second", second, cycle, packet)
+
+    /// Prints what was counted.
+    fn show_counts(&self, rt: &HostRuntime) -> anyhow::Result<()> {
+        let Ear { who, listener } = self;
+        let heard = listener.heard();
+        let missed = listener.missed();
+        println!(rt; "  {who}: {heard} heard, {missed} missed")?;
+        Ok(())
+    }
 }
 
-/// Sends in a cycle, lets the first listener hear the packet twice, and then the second.
-fn pass(
-    rt: &HostRuntime,
-    trio: &mut Trio<Am824, NonBlocking>,
-    cycle: u32,
-    units: &[Am824Unit],
-) -> anyhow::Result<()> {
-    let mut bytes = [0; 72];
-    let score = Score {
-        arrivals: &ARRIVALS,
-        units,
-    };
-    let length = match trio.talker.send(score, cycle, &mut bytes) {
-        Ok(sent) => sent.length as usize,
-        Err(fault) => return Err(fault.refusal().into()),
-    };
-    hear(rt, "first", &mut trio.first, cycle, &bytes[..length])?;
-    hear(rt, "first", &mut trio.first, cycle, &bytes[..length])?;
-    hear_second(rt, &mut trio.second, cycle, &mut bytes[..length])
+/// The worked stream, its talker, and the two listeners.
+#[derive(Drop)]
+struct Stand {
+    worked: Worked,
+    talker: Talker<Am824, NonBlocking>,
+    first: Ear,
+    second: Ear,
+}
+
+impl Stand {
+    fn new() -> anyhow::Result<Stand> {
+        let worked = Worked::new()?;
+        let trio = Trio::new(worked.plan, NonBlocking, 1, worked.delay(false)?)?;
+        Ok(Stand {
+            worked,
+            talker: trio.talker,
+            first: Ear {
+                who: "first",
+                listener: trio.first,
+            },
+            second: Ear {
+                who: "second",
+                listener: trio.second,
+            },
+        })
+    }
+
+    /// Sends in a cycle, lets the first listener hear the packet twice, and then the second, in
+    /// cycle 2 with a unit whose label no unit has.
+    fn pass(&mut self, rt: &HostRuntime, cycle: u32) -> anyhow::Result<()> {
+        let mut bytes = [0; 72];
+        let sent = self.talker.send(self.worked.score(), cycle, &mut bytes)?;
+        let length = sent.length as usize;
+        self.first.hear(rt, cycle, &bytes[..length])?;
+        self.first.hear(rt, cycle, &bytes[..length])?;
+        if cycle == 2 {
+            bytes[12] = 0x43;
+        }
+        self.second.hear(rt, cycle, &bytes[..length])
+    }
 }
 
 /// Sends the ten blocks in cycles 1 to 3; the first listener hears all three packets, the second
 /// not that of cycle 2, and each is given packets that it refuses.
 pub fn show(rt: &HostRuntime) -> anyhow::Result<()> {
     println!(rt; "Heard by two listeners, the second without cycle 2:")?;
-    let mut trio = match Trio::new(plan()?, NonBlocking, 1, delay(false)?) {
-        Ok(trio) => trio,
-        Err(fault) => return Err(fault.refusal().into()),
-    };
-    let units = [silence()?; 20];
-    for cycle in 1..4u32 {
-        pass(rt, &mut trio, cycle, &units)?;
+    let mut stand = Stand::new()?;
+    for cycle in 1..4 {
+        stand.pass(rt, cycle)?;
     }
-    show_counts(rt, "first", &trio.first)?;
-    show_counts(rt, "second", &trio.second)
+    stand.first.show_counts(rt)?;
+    stand.second.show_counts(rt)
 }

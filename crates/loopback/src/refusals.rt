@@ -11,12 +11,10 @@ fn show_answer(
     call: &str,
     answer: Result<Am824Unit, UnitFault>,
 ) -> anyhow::Result<()> {
+    // Both answers are printed, so both have an arm.
     match answer {
         Ok(unit) => println!(rt; "  {call}: {unit}")?,
-        Err(fault) => {
-            let refusal = fault.refusal();
-            println!(rt; "  {call}: {refusal}")?
-        }
+        Err(fault) => println!(rt; "  {call}: {fault}")?,
     }
     Ok(())
 }
@@ -29,11 +27,9 @@ fn show_read(rt: &HostRuntime, bytes: &[u8]) -> anyhow::Result<()> {
 
 pub fn show(rt: &HostRuntime) -> anyhow::Result<()> {
     println!(rt; "Refused, each cause once:")?;
-    let mut short = [0; 3];
-    match Am824::write(Am824Unit::Midi0, &mut short) {
-        Ok(()) => {}
-        Err(fault) => show_answer(rt, " written to three bytes", Err(fault))?,
-    }
+    let unit = Am824Unit::Midi0;
+    let written = Am824::write(unit, &mut [0; 3]).map(|()| unit);
+    show_answer(rt, " written to three bytes", written)?;
     show_read(rt, &[0x40, 0, 0])?;
     show_read(rt, &[0x43, 0, 0, 0])?;
     show_read(rt, &[0x41, 0xff, 0xff, 0xf8])?;

@@ -24,23 +24,18 @@ fn am824_units() -> Result<[Am824Unit; 10], UnitFault> {
     ])
 }
 
-/// Writes units as one row, reads the row back, and prints each with its bytes.
-fn show_row<K: Kind>(
-    rt: &HostRuntime,
-    units: &[K::Unit],
-    bytes: &mut [u8],
-    list: &mut [K::Unit],
-) -> anyhow::Result<()>
+/// Writes units as one row, reads the row back into a list that was filled with `blank`, and prints
+/// each with its bytes.
+fn show_row<K: Kind>(rt: &HostRuntime, units: &[K::Unit], blank: K::Unit) -> anyhow::Result<()>
 where
     K::Unit: Display,
 {
-    if let Err(fault) = write_row::<K>(units, bytes) {
-        return Err(fault.refusal().into());
-    }
-    if let Err(fault) = read_row::<K>(bytes, units.len(), list) {
-        return Err(fault.refusal().into());
-    }
-    for (unit, code) in list.iter().zip(bytes.chunks(4 * K::size() as usize)) {
+    let size = 4 * K::size() as usize;
+    let mut bytes = vec![in rt.alloc(); 0; size.saturating_mul(units.len())]?;
+    write_row::<K>(units, &mut bytes)?;
+    let mut list = vec![in rt.alloc(); blank; units.len()]?;
+    read_row::<K>(&bytes, units.len(), &mut list)?;
+    for (unit, code) in list.iter().zip(bytes.chunks(size)) {
         let code = hex(rt.alloc(), code)?;
         println!(rt; " {code}  {unit}")?;
     }
@@ -49,16 +44,11 @@ where
 
 pub fn show_am824(rt: &HostRuntime) -> anyhow::Result<()> {
     println!(rt; "AM824 units, as they stand in the row and as they are read back:")?;
-    match am824_units() {
-        Ok(units) => show_row::<Am824>(rt, &units, &mut [0; 40], &mut [Am824Unit::Midi0; 10]),
-        Err(fault) => Err(fault.refusal().into()),
-    }
+    show_row::<Am824>(rt, &am824_units()?, Am824Unit::Midi0)
 }
 
 pub fn show_pack(rt: &HostRuntime) -> anyhow::Result<()> {
     println!(rt; "A pack:")?;
-    match PackUnit::new(1, -1, -8_388_608, 8_388_607) {
-        Ok(unit) => show_row::<Pack>(rt, &[unit], &mut [0; 12], &mut [unit]),
-        Err(fault) => Err(fault.refusal().into()),
-    }
+    let unit = PackUnit::new(1, -1, -8_388_608, 8_388_607)?;
+    show_row::<Pack>(rt, &[unit], PackUnit::SILENCE)
 }

@@ -1,7 +1,10 @@
-ghost use Rattle.std.specs.Prelude.{◌≡◌};
+ghost use Rattle.std.specs.Prelude.{◌≡◌, Some};
+ghost use Rattle.faults.specs.Refusals.{text};
 ghost use Rattle.plans.specs.Faults.{told};
 
 use faults::Refusal;
+use std::error::Error;
+use std::fmt;
 
 /// Why a stream is not planned.
 #[derive(Clone, Copy, PartialEq, Eq, Debug)]
@@ -17,15 +20,20 @@ impl PlanFault {
     pub fn refusal(&self) -> Refusal
         ensures { result ≡ told self.now }
     {
-        match self {
-            PlanFault::Rate => Refusal {
-                number: 1,
-                place: 0,
-            },
-            PlanFault::Dimension => Refusal {
-                number: 2,
-                place: 0,
-            },
-        }
+        let number = match self {
+            PlanFault::Rate => 1,
+            PlanFault::Dimension => 2,
+        };
+        Refusal { number, place: 0 }
     }
 }
+
+impl fmt::Display for PlanFault {
+    ghost output = { λ fault. Some (text (told fault)) };
+
+    fn fmt<W: fmt::Write>(&self, f: &mut fmt::Formatter<W>) -> fmt::Result {
+        self.refusal().fmt(f)
+    }
+}
+
+impl Error for PlanFault {}

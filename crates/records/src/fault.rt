@@ -1,8 +1,11 @@
-ghost use Rattle.std.specs.Prelude.{◌≡◌};
+ghost use Rattle.std.specs.Prelude.{◌≡◌, Some};
+ghost use Rattle.faults.specs.Refusals.{text};
 ghost use Rattle.records.specs.Faults.{told};
 
 use faults::Refusal;
 use plans::PlanFault;
+use std::error::Error;
+use std::fmt;
 
 /// Why a reel is refused.
 #[derive(Clone, Copy, PartialEq, Eq, Debug)]
@@ -44,3 +47,13 @@ impl ReelFault {
         }
     }
 }
+
+impl fmt::Display for ReelFault {
+    ghost output = { λ fault. Some (text (told fault)) };
+
+    fn fmt<W: fmt::Write>(&self, f: &mut fmt::Formatter<W>) -> fmt::Result {
+        self.refusal().fmt(f)
+    }
+}
+
+impl Error for ReelFault {}

@@ -1,8 +1,11 @@
-ghost use Rattle.std.specs.Prelude.{◌≡◌};
+ghost use Rattle.std.specs.Prelude.{◌≡◌, Some};
+ghost use Rattle.faults.specs.Refusals.{text};
 ghost use Rattle.talkers.specs.Faults.{talker_told, send_told};
 ghost use Rattle.talkers.specs.declared.fault.SendFault.TheVariants.{Room};
 
 use faults::{Refusal, UnitFault};
+use std::error::Error;
+use std::fmt;
 
 /// Why no talker is made.
 #[derive(Clone, Copy, PartialEq, Eq, Debug)]
@@ -18,14 +21,22 @@ impl TalkerFault {
     pub fn refusal(&self) -> Refusal
         ensures { result ≡ talker_told self.now }
     {
-        match self {
-            TalkerFault::Source | TalkerFault::Delay => Refusal {
-                number: 3,
-                place: 0,
-            },
-        }
+        let number = match self {
+            TalkerFault::Source | TalkerFault::Delay => 3,
+        };
+        Refusal { number, place: 0 }
     }
 }
+
+impl fmt::Display for TalkerFault {
+    ghost output = { λ fault. Some (text (talker_told fault)) };
+
+    fn fmt<W: fmt::Write>(&self, f: &mut fmt::Formatter<W>) -> fmt::Result {
+        self.refusal().fmt(f)
+    }
+}
+
+impl Error for TalkerFault {}
 
 /// Why nothing is sent.
 #[derive(Clone, Copy, PartialEq, Eq, Debug)]
@@ -43,22 +54,24 @@ impl SendFault {
     pub fn refusal(&self) -> Refusal
         ensures { result ≡ send_told self.now }
     {
-        match self {
-            SendFault::Score => Refusal {
-                number: 4,
-                place: 0,
-            },
-            SendFault::Cycle => Refusal {
-                number: 5,
-                place: 0,
-            },
-            SendFault::Room => Refusal {
-                number: 6,
-                place: 0,
-            },
-        }
+        let number = match self {
+            SendFault::Score => 4,
+            SendFault::Cycle => 5,
+            SendFault::Room => 6,
+        };
+        Refusal { number, place: 0 }
     }
 }
+
+impl fmt::Display for SendFault {
+    ghost output = { λ fault. Some (text (send_told fault)) };
+
+    fn fmt<W: fmt::Write>(&self, f: &mut fmt::Formatter<W>) -> fmt::Result {
+        self.refusal().fmt(f)
+    }
+}
+
+impl Error for SendFault {}
 
 /// A row that is not written for want of room is a packet that is not.
 impl From<UnitFault> for SendFault {

@@ -1,10 +1,13 @@
-ghost use Rattle.std.specs.Prelude.{◌≡◌};
+ghost use Rattle.std.specs.Prelude.{◌≡◌, Some};
+ghost use Rattle.faults.specs.Refusals.{text};
 ghost use Rattle.units.specs.Faults.{carried, told};
 
 use faults::{Located, Refusal, UnitFault};
+use std::error::Error;
+use std::fmt;
 
 /// Why a row is not read.
-#[derive(Clone, Copy, PartialEq, Debug)]
+#[derive(Clone, Copy, PartialEq, Eq, Debug)]
 pub enum RowFault {
     /// The caller's list holds fewer units than are asked for.
     List,
@@ -26,6 +29,16 @@ impl RowFault {
         }
     }
 }
+
+impl fmt::Display for RowFault {
+    ghost output = { λ fault. Some (text (told fault)) };
+
+    fn fmt<W: fmt::Write>(&self, f: &mut fmt::Formatter<W>) -> fmt::Result {
+        self.refusal().fmt(f)
+    }
+}
+
+impl Error for RowFault {}
 
 impl From<Located<usize, UnitFault>> for RowFault {
     ghost from_gives = { λ fault r. r ≡ carried fault };
