@@ -10,18 +10,9 @@ use quadlets::{Am824Unit, Marker};
 pub fn subframe(upper: u8, lower: u8, bits: u32) -> Result<Am824Unit, UnitFault>
     ensures { Made (no_subframe upper lower bits) (subframe_bytes upper lower bits) result }
 {
-    let marker = match upper {
-        0 => Marker::Second,
-        1 => Marker::First,
-        3 => Marker::Start,
-        _ => return Err(UnitFault::FIELD),
-    };
-    if lower > 15 {
-        return Err(UnitFault::FIELD);
-    }
     Ok(Am824Unit::Subframe {
-        marker,
-        flags: Nibble::low(lower),
+        marker: Marker::try_from(upper)?,
+        flags: Nibble::try_from(lower)?,
         bits: Bits24::new(bits)?,
     })
 }
@@ -37,6 +28,7 @@ pub fn raw(code: u8, number: i32) -> Result<Am824Unit, UnitFault>
 pub fn midi(count: u8, x: u8, y: u8, z: u8) -> Result<Am824Unit, UnitFault>
     ensures { Made (no_midi count x y z) (midi_bytes count x y z) result }
 {
+    // A case for each count of MIDI bytes.
     match (count, x, y, z) {
         (0, 0, 0, 0) => Ok(Am824Unit::Midi0),
         (1, _, 0, 0) => Ok(Am824Unit::Midi1(x)),
