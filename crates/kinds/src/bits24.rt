@@ -27,7 +27,8 @@ impl Bits24 {
     pub fn field(self) -> u32
         ensures { result ≡ field_of self }
     {
-        65_536 * u32::from(self.high) + u32::from(self.low)
+        let [high, middle, low] = self.to_bytes();
+        u32::from_be_bytes([0, high, middle, low])
     }
 
     /// The upper 16 and the lower 8 bits together.
@@ -61,6 +62,7 @@ impl Bits24 {
     pub fn number(self) -> i32
         ensures { result ≡ number_of self }
     {
+        // By the place where the sign turns, as the contract has it: shifts would say no more.
         let field = self.field() as i32;
         if field < 8_388_608 {
             field

@@ -3,6 +3,7 @@ ghost use Rattle.kinds.specs.Nibbles.{value as value_of, low as low_of, made};
 
 use faults::UnitFault;
 
+// Four truth values and no number, so that every value is four bits.
 /// Four bits, the highest first.
 #[derive(Clone, Copy, PartialEq, Eq, Debug)]
 pub struct Nibble {

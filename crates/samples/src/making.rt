@@ -6,6 +6,7 @@ use faults::UnitFault;
 use kinds::{Bits24, Nibble};
 use quadlets::{Am824Unit, Marker};
 
+// Bare numbers, as callers have them; what is wider than its field is refused.
 /// A subframe of the upper half of its label (0, 1 or 3), the lower half, and its 24 bits.
 pub fn subframe(upper: u8, lower: u8, bits: u32) -> Result<Am824Unit, UnitFault>
     ensures { Made (no_subframe upper lower bits) (subframe_bytes upper lower bits) result }
