@@ -2,16 +2,9 @@
 use Rattle.std.specs.Prelude.{ℕ, ◌+◌, ◌*◌, ◌/◌, ◌%◌, List, [], ◌∷◌}
 use Rattle.kinds.specs.Bits.{bytes}
 use Rattle.kinds.specs.Nibbles.{value}
-use Rattle.quadlets.specs.declared.unit.Marker.{Marker}
-use Rattle.quadlets.specs.declared.unit.Marker.TheVariants.{Second, First, Start}
+use Rattle.quadlets.specs.Markers.{marked}
 use Rattle.quadlets.specs.declared.unit.Am824Unit.{Am824Unit}
 use Rattle.quadlets.specs.declared.unit.Am824Unit.TheVariants.{Subframe, Raw24, Raw20, Raw16, Midi0, Midi1, Midi2, Midi3}
-
--- the upper half of a subframe's label
-abbrev pub marked : Marker → ℕ
-marked Second = 0
-marked First = 1
-marked Start = 3
 
 abbrev pub code : Am824Unit → List ℕ
 code (Subframe m n d) = (16 * marked m + value n) ∷ bytes d

@@ -8,11 +8,12 @@ use Rattle.kinds.specs.declared.nibble.Nibble.{Nibble}
 use Rattle.kinds.specs.Bits.{from_bytes}
 use Rattle.kinds.specs.Nibbles.{value, low}
 use Rattle.kinds.proofs.Nibbles.{value_most, value_low, low_value}
-use Rattle.quadlets.specs.declared.unit.Marker.{Marker}
-use Rattle.quadlets.specs.declared.unit.Marker.TheVariants.{Second, First, Start}
+use Rattle.quadlets.specs.declared.marker.Marker.{Marker}
+use Rattle.quadlets.specs.declared.marker.Marker.TheVariants.{Second, First, Start}
 use Rattle.quadlets.specs.declared.unit.Am824Unit.{Am824Unit}
 use Rattle.quadlets.specs.declared.unit.Am824Unit.TheVariants.{Subframe, Raw20}
-use Rattle.am824.specs.Codes.{marked, code}
+use Rattle.quadlets.specs.Markers.{marked}
+use Rattle.am824.specs.Codes.{code}
 use Rattle.am824.specs.Reading.{within, strange, padded, unit, quadlet}
 
 -- a label below 40h whose upper half a marker makes

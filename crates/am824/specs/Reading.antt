@@ -4,7 +4,7 @@ use Rattle.faults.specs.declared.units.UnitFault.{UnitFault}
 use Rattle.faults.specs.Units.{label, padding, unused}
 use Rattle.kinds.specs.Bits.{from_bytes}
 use Rattle.kinds.specs.Nibbles.{low}
-use Rattle.quadlets.specs.declared.unit.Marker.TheVariants.{Second, First, Start}
+use Rattle.quadlets.specs.declared.marker.Marker.TheVariants.{Second, First, Start}
 use Rattle.quadlets.specs.declared.unit.Am824Unit.{Am824Unit}
 use Rattle.quadlets.specs.declared.unit.Am824Unit.TheVariants.{Subframe, Raw24, Raw20, Raw16, Midi0, Midi1, Midi2, Midi3}
 

@@ -1,5 +1,5 @@
-ghost use Rattle.std.specs.Prelude.{◌≡◌, ◌+◌, ◌*◌};
-ghost use Rattle.am824.specs.Codes.{code, marked as marked_as};
+ghost use Rattle.std.specs.Prelude.{◌≡◌};
+ghost use Rattle.am824.specs.Codes.{code};
 ghost use Rattle.am824.specs.Reading.{quadlet};
 ghost use Rattle.faults.specs.Units.{unused as unused_at};
 ghost use Rattle.kinds.specs.Nibbles.{low};
@@ -7,17 +7,6 @@ ghost use Rattle.kinds.specs.Nibbles.{low};
 use faults::{UnitCause, UnitFault};
 use kinds::{Bits24, Nibble};
 use quadlets::{Am824Unit, Marker};
-
-/// The upper half of the label that a marker makes.
-fn marked(marker: Marker) -> u8
-    ensures { result ≡ marked_as marker }
-{
-    match marker {
-        Marker::Second => 0,
-        Marker::First => 1,
-        Marker::Start => 3,
-    }
-}
 
 /// The four bytes of a unit.
 pub fn encode(unit: Am824Unit) -> [u8; 4]
@@ -30,19 +19,21 @@ pub fn encode(unit: Am824Unit) -> [u8; 4]
             bits,
         } => {
             let [high, middle, low] = bits.to_bytes();
-            [16 * marked(marker) + flags.value(), high, middle, low]
+            let label = 16 * u8::from(marker) + u8::from(flags);
+            [label, high, middle, low]
         }
         Am824Unit::Raw24(bits) => {
             let [high, middle, low] = bits.to_bytes();
             [0x40, high, middle, low]
         }
-        Am824Unit::Raw20(upper, lower) => [
-            0x41,
-            (upper / 256) as u8,
-            (upper % 256) as u8,
-            16 * lower.value(),
-        ],
-        Am824Unit::Raw16(upper) => [0x42, (upper / 256) as u8, (upper % 256) as u8, 0],
+        Am824Unit::Raw20(upper, lower) => {
+            let [high, low] = upper.to_be_bytes();
+            [0x41, high, low, 16 * u8::from(lower)]
+        }
+        Am824Unit::Raw16(upper) => {
+            let [high, low] = upper.to_be_bytes();
+            [0x42, high, low, 0]
+        }
         Am824Unit::Midi0 => [0x80, 0, 0, 0],
         Am824Unit::Midi1(x) => [0x81, x, 0, 0],
         Am824Unit::Midi2(x, y) => [0x82, x, y, 0],
@@ -61,13 +52,6 @@ fn subframe(marker: Marker, flags: u8, bits: Bits24) -> Am824Unit
     }
 }
 
-/// Two bytes as a number, the high byte first.
-fn word(high: u8, low: u8) -> u16
-    ensures { result ≡ 256 * high + low }
-{
-    256 * (high as u16) + low as u16
-}
-
 /// The fault of a MIDI unit whose byte at a place should be zero.
 fn unused(place: u16) -> UnitFault
     ensures { result ≡ unused_at place }
@@ -82,13 +66,17 @@ fn unused(place: u16) -> UnitFault
 pub fn decode(a: u8, b: u8, c: u8, d: u8) -> Result<Am824Unit, UnitFault>
     ensures { result ≡ quadlet a b c d }
 {
+    // A line for each range of labels, as the format has them.
     match a {
         0x00..=0x0f => Ok(subframe(Marker::Second, a, Bits24::from_bytes(b, c, d))),
         0x10..=0x1f => Ok(subframe(Marker::First, a, Bits24::from_bytes(b, c, d))),
         0x30..=0x3f => Ok(subframe(Marker::Start, a, Bits24::from_bytes(b, c, d))),
         0x40 => Ok(Am824Unit::Raw24(Bits24::from_bytes(b, c, d))),
-        0x41 if d % 16 == 0 => Ok(Am824Unit::Raw20(word(b, c), Nibble::low(d / 16))),
-        0x42 if d == 0 => Ok(Am824Unit::Raw16(word(b, c))),
+        0x41 if d % 16 == 0 => Ok(Am824Unit::Raw20(
+            u16::from_be_bytes([b, c]),
+            Nibble::low(d / 16),
+        )),
+        0x42 if d == 0 => Ok(Am824Unit::Raw16(u16::from_be_bytes([b, c]))),
         0x41 | 0x42 => Err(UnitFault::PADDING),
         0x80 if b != 0 => Err(unused(1)),
         0x80 | 0x81 if c != 0 => Err(unused(2)),

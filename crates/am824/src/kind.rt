@@ -10,7 +10,7 @@ ghost use Rattle.am824.specs.Reading;
 
 use crate::codec::{decode, encode};
 use faults::UnitFault;
-use kinds::Kind;
+use kinds::{Kind, lay};
 use quadlets::Am824Unit;
 
 /// The kind of AM824 units.
@@ -63,11 +63,7 @@ impl Kind for Am824 {
     }
 
     fn write(unit: Am824Unit, out: &mut [u8]) -> Result<(), UnitFault> {
-        if out.len() < 4 {
-            return Err(UnitFault::ROOM);
-        }
-        out[0..4].copy_from_slice(&encode(unit));
-        Ok(())
+        lay(encode(unit), out)
     }
 
     fn read(bytes: &[u8]) -> Result<Am824Unit, UnitFault> {

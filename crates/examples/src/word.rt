@@ -5,7 +5,7 @@ ghost use Rattle.kinds.proofs.Quadlets.{four_bytes};
 ghost use Rattle.examples.specs.Words;
 
 use faults::UnitFault;
-use kinds::Kind;
+use kinds::{Kind, lay};
 
 /// Any quadlet, as two halves.
 #[derive(Clone, Copy)]
@@ -21,12 +21,9 @@ pub struct Word;
 fn encode(unit: WordUnit) -> [u8; 4]
     ensures { result ≡ code_of unit }
 {
-    [
-        (unit.high / 256) as u8,
-        (unit.high % 256) as u8,
-        (unit.low / 256) as u8,
-        (unit.low % 256) as u8,
-    ]
+    let [a, b] = unit.high.to_be_bytes();
+    let [c, d] = unit.low.to_be_bytes();
+    [a, b, c, d]
 }
 
 impl Kind for Word {
@@ -69,11 +66,7 @@ impl Kind for Word {
     }
 
     fn write(unit: WordUnit, out: &mut [u8]) -> Result<(), UnitFault> {
-        if out.len() < 4 {
-            return Err(UnitFault::ROOM);
-        }
-        out[0..4].copy_from_slice(&encode(unit));
-        Ok(())
+        lay(encode(unit), out)
     }
 
     fn read(bytes: &[u8]) -> Result<WordUnit, UnitFault> {
@@ -81,8 +74,8 @@ impl Kind for Word {
             return Err(UnitFault::CUT);
         };
         Ok(WordUnit {
-            high: 256 * (*a as u16) + *b as u16,
-            low: 256 * (*c as u16) + *d as u16,
+            high: u16::from_be_bytes([*a, *b]),
+            low: u16::from_be_bytes([*c, *d]),
         })
     }
 }

@@ -27,6 +27,11 @@ twos (negsuc n) = 16777215 - n
 abbrev pub signed : ℤ → Bits24
 signed n = from_field (twos n)
 
+-- the low 24 bits of a number's two's complement
+abbrev pub low_bits : ℤ → Bits24
+low_bits (pos n) = from_field (n % 16777216)
+low_bits (negsuc n) = from_field (16777215 - n % 16777216)
+
 -- below -8,388,608 or above 8,388,607
 abbrev pub outside : ℤ → Bool
 outside n = int_lt n (negsuc 8388607) || int_lt (pos 8388607) n

@@ -1,5 +1,5 @@
 ghost use Rattle.std.specs.Prelude.{◌≡◌, ◌+◌, ◌*◌, IfOk};
-ghost use Rattle.kinds.specs.Bits.{bytes as bytes_of, field as field_of, from_bytes, from_field, number as number_of, made, made_signed};
+ghost use Rattle.kinds.specs.Bits.{bytes as bytes_of, field as field_of, from_bytes, from_field, number as number_of, made, made_signed, low_bits as low_bits_of};
 
 use faults::UnitFault;
 
@@ -10,6 +10,7 @@ pub struct Bits24 {
     pub low: u16,
 }
 
+// Methods and not conversions: 24 bits have two readings, and a name says which.
 impl Bits24 {
     /// The bits of a number from 0 to 16,777,215.
     pub fn new(field: u32) -> Result<Bits24, UnitFault>
@@ -18,27 +19,24 @@ impl Bits24 {
         if field >= 16_777_216 {
             return Err(UnitFault::FIELD);
         }
-        Ok(Bits24 {
-            high: (field / 65_536) as u8,
-            low: (field % 65_536) as u16,
-        })
+        let [_, high, middle, low] = field.to_be_bytes();
+        Ok(Bits24::from_bytes(high, middle, low))
     }
 
     /// The bits as a number from 0 to 16,777,215.
     pub fn field(self) -> u32
         ensures { result ≡ field_of self }
     {
-        65_536 * (self.high as u32) + self.low as u32
+        let [high, middle, low] = self.to_bytes();
+        u32::from_be_bytes([0, high, middle, low])
     }
 
     /// The upper 16 and the lower 8 bits together.
     pub fn joined(upper: u16, lower: u8) -> Bits24
         ensures { result ≡ from_field (256 * upper + lower) }
     {
-        Bits24 {
-            high: (upper / 256) as u8,
-            low: 256 * (upper % 256) + lower as u16,
-        }
+        let [high, middle] = upper.to_be_bytes();
+        Bits24::from_bytes(high, middle, lower)
     }
 
     /// The two's complement of a number from -8,388,608 to 8,388,607.
@@ -46,21 +44,26 @@ impl Bits24 {
         ensures value { result ≡ made_signed number }
         ensures back { IfOk result (λ bits. number_of bits ≡ number) }
     {
-        if number < -8_388_608 || number > 8_388_607 {
+        if !(-8_388_608..=8_388_607).contains(&number) {
             return Err(UnitFault::FIELD);
         }
-        if number < 0 {
-            Bits24::new((number + 16_777_216) as u32)
-        } else {
-            Bits24::new(number as u32)
-        }
+        Ok(Bits24::low_bits(number))
+    }
+
+    /// The low 24 bits of a number's two's complement.
+    pub fn low_bits(number: i32) -> Bits24
+        ensures { result ≡ low_bits_of number }
+    {
+        let [_, high, middle, low] = number.to_be_bytes();
+        Bits24::from_bytes(high, middle, low)
     }
 
     /// The number of which the bits are the two's complement.
     pub fn number(self) -> i32
         ensures { result ≡ number_of self }
     {
-        let field = 65_536 * (self.high as i32) + self.low as i32;
+        // By the place where the sign turns, as the contract has it: shifts would say no more.
+        let field = self.field() as i32;
         if field < 8_388_608 {
             field
         } else {
@@ -74,7 +77,7 @@ impl Bits24 {
     {
         Bits24 {
             high,
-            low: 256 * (middle as u16) + low as u16,
+            low: u16::from_be_bytes([middle, low]),
         }
     }
 
@@ -82,6 +85,7 @@ impl Bits24 {
     pub fn to_bytes(self) -> [u8; 3]
         ensures { result ≡ bytes_of self }
     {
-        [self.high, (self.low / 256) as u8, (self.low % 256) as u8]
+        let [middle, low] = self.low.to_be_bytes();
+        [self.high, middle, low]
     }
 }

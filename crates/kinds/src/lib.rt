@@ -4,9 +4,11 @@
 
 mod bits24;
 mod kind;
+mod laying;
 mod nibble;
 mod texts;
 
 pub use bits24::Bits24;
 pub use kind::Kind;
+pub use laying::lay;
 pub use nibble::Nibble;

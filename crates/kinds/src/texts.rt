@@ -10,7 +10,6 @@ impl fmt::Display for Bits24 {
     ghost output = { λ bits. Some (signed_decimal (number bits)) };
 
     fn fmt<W: fmt::Write>(&self, f: &mut fmt::Formatter<W>) -> fmt::Result {
-        let number = self.number();
-        write!(f, "{number}")
+        write!(f, "{}", self.number())
     }
 }

@@ -2,13 +2,8 @@
 use Rattle.std.specs.Prelude.{cond, ◌||◌, ℤ, Ok, Err, Result}
 use Rattle.faults.specs.declared.units.UnitFault.{UnitFault}
 use Rattle.faults.specs.Units.{field}
-use Rattle.kinds.specs.declared.bits24.Bits24.{Bits24}
 use Rattle.kinds.specs.Bits.{outside, signed}
 use Rattle.pack.specs.declared.unit.PackUnit.{PackUnit}
-
--- two samples, or the refusal where a number is outside its field
-abbrev pub made_two : ℤ → ℤ → Result (Bits24 × Bits24) UnitFault
-made_two a b = cond (outside a || outside b) (Err field) (Ok (signed a, signed b))
 
 abbrev pub pack : ℤ → ℤ → ℤ → ℤ → PackUnit
 pack a b c d = record { first = signed a; second = signed b; third = signed c; fourth = signed d }

@@ -1,13 +1,13 @@
-ghost use Rattle.std.specs.Prelude.{◌≡◌, ℕ, ◌+◌, ◌≤◌, List, ◌∷◌, ◌++◌, length, Ok};
+ghost use Rattle.std.specs.Prelude.{◌≡◌, ℕ, List, ◌∷◌, ◌++◌, Ok};
 ghost use Rattle.std.proofs.Common.{ap, ◌∙◌, rules};
 ghost use Rattle.kinds.specs.Bits.{from_bytes};
-ghost use Rattle.pack.specs.Codes.{code as code_of, heard as heard_of, sample_at};
+ghost use Rattle.pack.specs.Codes.{code as code_of, heard as heard_of};
 ghost use Rattle.pack.specs.Codes;
 ghost use Rattle.pack.specs.PackKindLemmas.{three, front, empty};
 
 use crate::unit::PackUnit;
 use faults::UnitFault;
-use kinds::{Bits24, Kind};
+use kinds::{Bits24, Kind, lay};
 
 /// The kind of packs.
 #[derive(Clone, Copy)]
@@ -22,14 +22,6 @@ fn encode(unit: PackUnit) -> [u8; 12]
     let [g, h, i] = unit.third.to_bytes();
     let [j, k, l] = unit.fourth.to_bytes();
     [a, b, c, d, e, f, g, h, i, j, k, l]
-}
-
-/// The sample whose three bytes begin at a place.
-fn sample(bytes: &[u8], at: usize) -> Bits24
-    requires { at + 3 ≤ length bytes.now }
-    ensures { result ≡ sample_at bytes.now at }
-{
-    Bits24::from_bytes(bytes[at], bytes[at + 1], bytes[at + 2])
 }
 
 impl Kind for Pack {
@@ -77,22 +69,18 @@ impl Kind for Pack {
     }
 
     fn write(unit: PackUnit, out: &mut [u8]) -> Result<(), UnitFault> {
-        if out.len() < 12 {
-            return Err(UnitFault::ROOM);
-        }
-        out[0..12].copy_from_slice(&encode(unit));
-        Ok(())
+        lay(encode(unit), out)
     }
 
     fn read(bytes: &[u8]) -> Result<PackUnit, UnitFault> {
-        if bytes.len() < 12 {
+        let [a, b, c, d, e, f, g, h, i, j, k, l, ..] = bytes else {
             return Err(UnitFault::CUT);
-        }
+        };
         Ok(PackUnit {
-            first: sample(bytes, 0),
-            second: sample(bytes, 3),
-            third: sample(bytes, 6),
-            fourth: sample(bytes, 9),
+            first: Bits24::from_bytes(*a, *b, *c),
+            second: Bits24::from_bytes(*d, *e, *f),
+            third: Bits24::from_bytes(*g, *h, *i),
+            fourth: Bits24::from_bytes(*j, *k, *l),
         })
     }
 }

@@ -8,10 +8,10 @@ impl fmt::Display for PackUnit {
     ghost output = { λ unit. Some (text unit) };
 
     fn fmt<W: fmt::Write>(&self, f: &mut fmt::Formatter<W>) -> fmt::Result {
-        let first = self.first;
-        let second = self.second;
-        let third = self.third;
-        let fourth = self.fourth;
-        write!(f, "pack of {first}, {second}, {third}, {fourth}")
+        write!(
+            f,
+            "pack of {}, {}, {}, {}",
+            self.first, self.second, self.third, self.fourth
+        )
     }
 }

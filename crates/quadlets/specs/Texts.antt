@@ -4,8 +4,8 @@ use Rattle.std.specs.Fmt.{signed_decimal}
 use Rattle.kinds.specs.declared.bits24.Bits24.{Bits24}
 use Rattle.kinds.specs.Bits.{field, number, from_field}
 use Rattle.kinds.specs.Nibbles.{value}
-use Rattle.quadlets.specs.declared.unit.Marker.{Marker}
-use Rattle.quadlets.specs.declared.unit.Marker.TheVariants.{Second, First, Start}
+use Rattle.quadlets.specs.declared.marker.Marker.{Marker}
+use Rattle.quadlets.specs.declared.marker.Marker.TheVariants.{Second, First, Start}
 use Rattle.quadlets.specs.declared.unit.Am824Unit.{Am824Unit}
 use Rattle.quadlets.specs.declared.unit.Am824Unit.TheVariants.{Subframe, Raw24, Raw20, Raw16, Midi0, Midi1, Midi2, Midi3}
 

@@ -2,7 +2,9 @@
 
 #![tactic(auto)]
 
+mod marker;
 mod texts;
 mod unit;
 
-pub use unit::{Am824Unit, Marker};
+pub use marker::Marker;
+pub use unit::Am824Unit;

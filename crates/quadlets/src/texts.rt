@@ -2,7 +2,8 @@ ghost use Rattle.std.specs.Prelude.{◌≡◌, Some};
 ghost use Rattle.std.specs.Fmt.{WritesOnOk};
 ghost use Rattle.quadlets.specs.Texts.{marker_text, sample_text, text};
 
-use crate::unit::{Am824Unit, Marker};
+use crate::marker::Marker;
+use crate::unit::Am824Unit;
 use kinds::Bits24;
 use std::fmt;
 
@@ -23,8 +24,7 @@ impl fmt::Display for Marker {
     ghost output = { λ marker. Some (marker_text marker) };
 
     fn fmt<W: fmt::Write>(&self, f: &mut fmt::Formatter<W>) -> fmt::Result {
-        let name = self.name();
-        write!(f, "{name}")
+        f.write_str(self.name())
     }
 }
 
@@ -45,15 +45,18 @@ impl fmt::Display for Am824Unit {
                 flags,
                 bits,
             } => {
-                let flags = flags.value();
-                let bits = bits.field();
-                write!(f, "{marker}, flags {flags}, bits {bits}")
+                write!(
+                    f,
+                    "{marker}, flags {}, bits {}",
+                    u8::from(flags),
+                    bits.field()
+                )
             }
             Am824Unit::Raw24(bits) => write_sample(f, 24, bits),
             Am824Unit::Raw20(upper, lower) => write_sample(
                 f,
                 20,
-                Bits24::joined(upper, 16 * lower.value()),
+                Bits24::joined(upper, 16 * u8::from(lower)),
             ),
             Am824Unit::Raw16(upper) => write_sample(f, 16, Bits24::joined(upper, 0)),
             Am824Unit::Midi0 => f.write_str("no MIDI byte"),

@@ -1,15 +1,5 @@
+use crate::marker::Marker;
 use kinds::{Bits24, Nibble};
-
-/// Which subframe of which frame a label marks.
-#[derive(Clone, Copy, PartialEq, Eq, Debug)]
-pub enum Marker {
-    /// The second subframe of any frame.
-    Second,
-    /// The first subframe of one of the frames 1 to 191.
-    First,
-    /// The first subframe of frame 0.
-    Start,
-}
 
 /// What a quadlet carries: every value is a unit, and no two have the same quadlet.
 #[derive(Clone, Copy, PartialEq, Debug)]

@@ -1,13 +1,20 @@
 -- The unit of a sample gives its length code and number back.
-use Rattle.std.proofs.Common.{◌≡◌, ℕ, ◌+◌, ◌*◌, ◌/◌, ◌%◌, false, eqb, [], ◌∷◌, ℤ, Some, Option, sym, refl, ap, ◌∙◌, arith, eqb-true}
+use Rattle.std.proofs.Common.{◌≡◌, ℕ, ◌+◌, ◌*◌, ◌/◌, ◌%◌, false, eqb, [], ◌∷◌, ℤ, Some, Option, sym, refl, ap, ◌∙◌, arith, rules, eqb-true}
 use Rattle.std.proofs.lemmas.Bool.{cond_both}
 use Rattle.std.proofs.lemmas.Bool.Decides.{nat_tests}
-use Rattle.kinds.specs.Bits.{number, twos, from_field}
+use Rattle.kinds.specs.Bits.{field, number, twos, outside, from_field, low_bits}
 use Rattle.kinds.specs.Nibbles.{value, low}
 use Rattle.kinds.proofs.Nibbles.{value_low}
 use Rattle.quadlets.specs.declared.unit.Am824Unit.{Am824Unit}
 use Rattle.am824.specs.Codes.{code as code_of}
 use Rattle.samples.specs.Samples.{no_sample, raw_field, raw_bytes, raw_of}
+
+-- a number inside the range of a sample is its 24 bits
+pub field_low : (z : ℤ) → outside z ≡ false → field (low_bits z) ≡ twos z
+field_low z h = search rules
+
+pub number_twos : (z : ℤ) → outside z ≡ false → number (from_field (twos z)) ≡ z
+number_twos z h = search rules
 
 module _ (code : ℕ) (z : ℤ) (h : no_sample code z ≡ false) (e : number (from_field (twos z)) ≡ z) where
   -- the pair, by a length code and a field that are the sample's

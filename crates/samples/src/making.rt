@@ -6,22 +6,14 @@ use faults::UnitFault;
 use kinds::{Bits24, Nibble};
 use quadlets::{Am824Unit, Marker};
 
+// Bare numbers, as callers have them; what is wider than its field is refused.
 /// A subframe of the upper half of its label (0, 1 or 3), the lower half, and its 24 bits.
 pub fn subframe(upper: u8, lower: u8, bits: u32) -> Result<Am824Unit, UnitFault>
     ensures { Made (no_subframe upper lower bits) (subframe_bytes upper lower bits) result }
 {
-    let marker = match upper {
-        0 => Marker::Second,
-        1 => Marker::First,
-        3 => Marker::Start,
-        _ => return Err(UnitFault::FIELD),
-    };
-    if lower > 15 {
-        return Err(UnitFault::FIELD);
-    }
     Ok(Am824Unit::Subframe {
-        marker,
-        flags: Nibble::low(lower),
+        marker: Marker::try_from(upper)?,
+        flags: Nibble::try_from(lower)?,
         bits: Bits24::new(bits)?,
     })
 }
@@ -37,6 +29,7 @@ pub fn raw(code: u8, number: i32) -> Result<Am824Unit, UnitFault>
 pub fn midi(count: u8, x: u8, y: u8, z: u8) -> Result<Am824Unit, UnitFault>
     ensures { Made (no_midi count x y z) (midi_bytes count x y z) result }
 {
+    // A case for each count of MIDI bytes.
     match (count, x, y, z) {
         (0, 0, 0, 0) => Ok(Am824Unit::Midi0),
         (1, _, 0, 0) => Ok(Am824Unit::Midi1(x)),

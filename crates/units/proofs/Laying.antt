@@ -1,18 +1,15 @@
 -- Codes of one length laid one after another.
-use Rattle.std.proofs.Common.{◌≡◌, ℕ, suc, ◌+◌, ◌-◌, ◌*◌, ◌/◌, ◌<◌, ◌≤◌, false, ltb, List, [], ◌∷◌, ◌++◌, length, get_or, take, drop, Ok, sym, ap, ◌∙◌, mul_comm, div-lt_iff_lt-mul, mul-zero, le-div_iff_mul-le, mul-suc, add-one, arith, le-ltb}
+use Rattle.std.proofs.Common.{◌≡◌, ℕ, suc, ◌+◌, ◌-◌, ◌*◌, ◌/◌, ◌<◌, ◌≤◌, false, ltb, List, [], ◌∷◌, ◌++◌, length, get_or, take, drop, sym, ap, ◌∙◌, mul_comm, mul-zero, le-div_iff_mul-le, mul-suc, add-one, arith, le-ltb}
 use borrow.Rule.Slice.PartMut.{put_mid}
 use Rattle.std.specs.List.{flat_map}
 use Rattle.std.proofs.lemmas.Nat.{mul-le}
 use Rattle.std.proofs.lemmas.List.{length-append, length-drop, length-take-le, take_at, drop_at, drop-drop, drop_all, take_more, take_rest, flat_map_more, append_assoc, append-nil}
 use Rattle.std.proofs.lemmas.Bool.{cond-false}
-use Rattle.kinds.specs.Codes.{laid, laid_answer}
+use Rattle.kinds.specs.Codes.{laid}
 
 -- whether so many of s bytes fit, as a division tells
 pub fits : (len s count : ℕ) → 1 ≤ s → count ≤ len / s → s * count ≤ len
 fits len s count h k = let a = (le-div_iff_mul-le {k = s} {x = count} {y = len} h).0 k in let b = mul_comm s count in omega arith
-
-pub fits_not : (len s count : ℕ) → 1 ≤ s → len / s < count → len < s * count
-fits_not len s count h k = let a = (div-lt_iff_lt-mul {k = s} {x = len} {y = count} h).0 k in let b = mul_comm s count in omega arith
 
 -- where all fit, the one at index i does
 pub fits_one : (len s count i : ℕ) → s * count ≤ len → i < count → s * i + s ≤ len
@@ -24,9 +21,6 @@ next_place s i = rw add-one (mul-suc s i)
 -- n bytes stand at `out[at..]`
 there : (out : List ℕ) (at n : ℕ) → at + n ≤ length out → ltb (length (take (length out - at) (drop at out))) n ≡ false
 there out at n h = le-ltb _ _ (omega (arith, ap length (take_rest out at), length-drop at out))
-
-pub laid_there : (out : List ℕ) (at n : ℕ) → at + n ≤ length out → laid_answer n (take (length out - at) (drop at out)) ≡ Ok tt
-laid_there out at n h = cond-false _ _ _ (there out at n h)
 
 module _ {U : Type 0} (code : U → List ℕ) (n : ℕ) (long : (u : U) → length (code u) ≡ n) where
   pub length_joined : (us : List U) → length (flat_map code us) ≡ n * length us

@@ -1,9 +1,9 @@
 -- A row of units read one after another.
-use Rattle.std.proofs.Common.{◌≡◌, ℕ, zero, suc, ◌+◌, ◌-◌, ◌<◌, ◌≤◌, false, ltb, List, [], ◌∷◌, ◌++◌, length, get_or, take, drop, set, Ok, Err, Result, sym, refl, ap, ◌∙◌, zero-le, arith, le-ltb}
-use Rattle.std.proofs.lemmas.List.{take_rest, drop-drop, drop_more, set_at, append_assoc, take_at, drop_at, length-append, length-drop, length_push}
+use Rattle.std.proofs.Common.{◌≡◌, ℕ, zero, suc, ◌+◌, ◌-◌, ◌<◌, ◌≤◌, false, ltb, List, [], ◌∷◌, ◌++◌, length, get_or, take, drop, set, Ok, Err, Result, sym, refl, ap, ◌∙◌, arith, le-ltb}
+use Rattle.std.proofs.lemmas.List.{take_rest, drop_more, set_at, append_assoc, take_at, drop_at, length-append, length_push}
 use Rattle.std.proofs.lemmas.Bool.{cond-false}
-use Rattle.std.proofs.lemmas.Bool.Decides.{nat_tests}
 use Rattle.std.specs.List.{flat_map}
+use Rattle.faults.specs.Located.{located}
 use Rattle.faults.specs.declared.located.Located.{Located}
 use Rattle.faults.specs.declared.units.UnitFault.{UnitFault}
 use Rattle.kinds.specs.Codes.{read_front}
@@ -27,47 +27,43 @@ after_end [] = refl
 after_end (u ∷ us) = ap (before (Ok u)) (after_end us)
 
 module _ {U : Type 0} (n : ℕ) (heard : List ℕ → Result U UnitFault) (count : ℕ) (bs : List ℕ) where
-  -- the units us were read, i of them, and what is left begins at a place
-  abbrev pub Reached : ℕ → ℕ → List U → Type 0
-  Reached i at us = (at ≤ length bs) × (length us ≡ i) × (row n heard count bs ≡ after us (row n heard (count - i) (drop at bs)))
+  -- the units us were read, i of them, and the rest is left
+  abbrev pub Reached : ℕ → List ℕ → List U → Type 0
+  Reached i rest us = (length us ≡ i) × (row n heard count bs ≡ after us (row n heard (count - i) rest))
 
-  -- the bytes `bs[at..]`
-  abbrev pub here : ℕ → List ℕ
-  here at = take (length bs - at) (drop at bs)
+  row_more : (i : ℕ) (rest : List ℕ) → i < count → row n heard (count - i) rest ≡ before (read_front n heard rest) (row n heard (count - (i + 1)) (drop n rest))
+  row_more i rest h = let k : count - i ≡ suc (count - (i + 1)) = omega arith in ap (λ j. row n heard j rest) k
 
-  row_more : (i at : ℕ) → i < count → row n heard (count - i) (drop at bs) ≡ before (read_front n heard (here at)) (row n heard (count - (i + 1)) (drop (at + n) bs))
-  row_more i at h =
-      let k : count - i ≡ suc (count - (i + 1)) = omega arith in
-      ap (λ j. row n heard j (drop at bs)) k
-      ∙ (λ j. before (read_front n heard (sym (take_rest bs at) j)) (row n heard (count - (i + 1)) (drop-drop n at bs j)))
+  pub reached_none : Reached 0 bs []
+  reached_none = let k : count ≡ count - 0 = omega arith in (refl, ap (λ j. row n heard j bs) k)
 
-  pub reached_none : Reached 0 0 []
-  reached_none = let k : count ≡ count - 0 = omega arith in (zero-le, refl, ap (λ j. row n heard j bs) k)
-
-  -- a unit that is read stands whole
-  read_room : (at : ℕ) (u : U) → at ≤ length bs → Ok u ≡ read_front n heard (here at) → at + n ≤ length bs
-  read_room at u h e =
-      let k : n ≤ length (here at) = grind (arith, nat_tests) in
-      omega (arith, ap length (take_rest bs at), length-drop at bs)
-
-  pub reached_more : (i at : ℕ) (us : List U) (u : U) → Reached i at us → i < count → Ok u ≡ read_front n heard (here at) → Reached (i + 1) (at + n) (us ++ u ∷ [])
-  reached_more i at us u r h e =
-      let rest = row n heard (count - (i + 1)) (drop (at + n) bs) in (
-        read_room at u r.0 e,
-        length_push us u ∙ ap (λ k. k + 1) r.1,
-        r.2 ∙ ap (after us) (row_more i at h ∙ ap (λ x. before x rest) (sym e)) ∙ after_push us u rest,
+  pub reached_more : (i k : ℕ) (rest : List ℕ) (us : List U) (u : U) → k ≡ n → Reached i rest us → i < count → Ok u ≡ read_front n heard rest → Reached (i + 1) (take (length rest - k) (drop k rest)) (us ++ u ∷ [])
+  reached_more i k rest us u s r h e =
+      let left = row n heard (count - (i + 1)) in (
+        length_push us u ∙ ap (λ k. k + 1) r.0,
+        r.1 ∙ ap (after us) (row_more i rest h ∙ ap (λ x. before x (left (drop n rest))) (sym e)) ∙ after_push us u (left (drop n rest))
+            ∙ ap (λ l. after (us ++ u ∷ []) (left l)) (ap (λ j. drop j rest) (sym s) ∙ sym (take_rest rest k)),
       )
 
-  pub reached_refused : (i at : ℕ) (us : List U) (f : UnitFault) → Reached i at us → i < count → Err f ≡ read_front n heard (here at) → row n heard count bs ≡ Err (record { position = i; fault = f })
-  reached_refused i at us f r h e =
-      let rest = row n heard (count - (i + 1)) (drop (at + n) bs) in
-      r.2 ∙ ap (after us) (row_more i at h ∙ ap (λ x. before x rest) (sym e)) ∙ after_err us (record { position = 0; fault = f })
-      ∙ ap (λ k. Err (record { position = k; fault = f })) (omega (arith, r.1))
+  pub reached_refused : (i : ℕ) (rest : List ℕ) (us : List U) (f : UnitFault) → Reached i rest us → i < count → Err f ≡ read_front n heard rest → row n heard count bs ≡ Err (record { position = i; fault = f })
+  reached_refused i rest us f r h e =
+      let left = row n heard (count - (i + 1)) (drop n rest) in
+      r.1 ∙ ap (after us) (row_more i rest h ∙ ap (λ x. before x left) (sym e)) ∙ after_err us (record { position = 0; fault = f })
+      ∙ ap (λ k. Err (record { position = k; fault = f })) (omega (arith, r.0))
 
-  pub reached_all : (i at : ℕ) (us : List U) → Reached i at us → count ≤ i → row n heard count bs ≡ Ok us
-  reached_all i at us r h =
+  -- the same of an answer that has got its position
+  pub reached_located : (i : ℕ) (rest : List ℕ) (us : List U) (r : Result U UnitFault) (at : Located ℕ UnitFault) → Reached i rest us → i < count → r ≡ read_front n heard rest → Err at ≡ located i r → row n heard count bs ≡ Err at
+  reached_located i rest us (Ok u) at r h e l = cc
+  reached_located i rest us (Err f) at r h e l = let same : record { position = i; fault = f } ≡ at = cc in reached_refused i rest us f r h e ∙ ap (λ k. Err k) same
+
+  pub reached_all : (i : ℕ) (rest : List ℕ) (us : List U) → Reached i rest us → count ≤ i → row n heard count bs ≡ Ok us
+  reached_all i rest us r h =
       let k : count - i ≡ 0 = omega arith in
-      r.2 ∙ ap (λ j. after us (row n heard j (drop at bs))) k ∙ after_end us
+      r.1 ∙ ap (λ j. after us (row n heard j rest)) k ∙ after_end us
+
+pub read_located : {U : Type 0} (i : ℕ) (r : Result U UnitFault) (u : U) → Ok u ≡ located i r → Ok u ≡ r
+read_located i (Ok v) u e = cc
+read_located i (Err f) u e = cc
 
 -- one element more is written over the front
 pub over_more : {X : Type 0} (entry list us : List X) (i : ℕ) (u : X) → i < length entry → length us ≡ i → list ≡ us ++ drop i entry → set list i u ≡ (us ++ u ∷ []) ++ drop (i + 1) entry

@@ -16,7 +16,3 @@ told (UnitCase at) = unit_told at.fault
 -- a unit's fault, with its index, as the row's
 abbrev pub carried : Located ℕ UnitFault → RowFault
 carried at = UnitCase at
-
--- a unit's fault with its index
-abbrev pub located : ℕ → UnitFault → Located ℕ UnitFault
-located index f = record { position = index; fault = f }

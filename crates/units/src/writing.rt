@@ -1,18 +1,10 @@
-ghost use Rattle.std.specs.Prelude.{◌≡◌, ◌*◌, ◌/◌, ◌≤◌, length, Ok, OnOk, nat_lt};
+ghost use Rattle.std.specs.Prelude.{◌≡◌, ◌*◌, length, Ok, OnOk};
 ghost use Rattle.std.specs.List.{flat_map};
 ghost use Rattle.units.specs.Rows.{row};
 ghost use Rattle.kinds.specs.Codes.{laid_answer, laid};
 
 use faults::UnitFault;
 use kinds::Kind;
-
-/// Whether some bytes are too few for so many codes of `step` bytes each.
-fn short(bytes: usize, step: usize, count: usize) -> bool
-    requires { 1 ≤ step }
-    ensures { result ≡ nat_lt (bytes / step) count }
-{
-    bytes / step < count
-}
 
 /// Lays the codes of units one after another at the front of `out` and leaves the rest, or refuses
 /// and leaves all. What it lays is read back as these units.
@@ -22,13 +14,12 @@ pub fn write_row<K: Kind>(units: &[K::Unit], out: &mut [u8]) -> Result<(), UnitF
     ensures back { OnOk result (row (4 * K.size) K.heard (length units.now) out.new ≡ Ok units.now) }
 {
     let step = 4 * K::size() as usize;
-    if short(out.len(), step, units.len()) {
+    if out.len() / step < units.len() {
         return Err(UnitFault::ROOM);
     }
-    let mut at = 0;
-    for unit in units {
-        K::write(*unit, &mut out[at..])?;
-        at += step;
+    // By place: after `chunks_mut` a proof knows no byte of `out`.
+    for (i, unit) in units.iter().enumerate() {
+        K::write(*unit, &mut out[step * i..])?;
     }
     Ok(())
 }

@@ -1,9 +1,9 @@
-ghost use Rattle.std.specs.Prelude.{◌≡◌, ◌+◌, ◌*◌, ◌%◌, ◌<◌, false, IfSome, Some, ◌==◌};
+ghost use Rattle.std.specs.Prelude.{◌≡◌, ◌%◌, IfSome, Some, ◌==◌};
 ghost use Rattle.std.specs.Option.{option_map};
 ghost use Rattle.am824.specs.Codes.{code as code_of};
 ghost use Rattle.samples.specs.SampleViews.{plain, Sampled};
 ghost use Rattle.samples.specs.Samples.{paddings, raw_field, raw_unit, raw_bytes, raw_of};
-ghost use Rattle.kinds.specs.Bits.{outside, twos, from_field, number as number_of};
+ghost use Rattle.kinds.specs.Bits.{field};
 
 use crate::sample::Sample;
 use faults::UnitFault;
@@ -14,6 +14,7 @@ use quadlets::Am824Unit;
 fn clear(code: u8, bits: Bits24) -> bool
     ensures { result ≡ (bits.low % paddings code == 0) }
 {
+    // A sample keeps its length code as a number.
     match code {
         0 => true,
         1 => bits.low % 16 == 0,
@@ -21,30 +22,15 @@ fn clear(code: u8, bits: Bits24) -> bool
     }
 }
 
-/// The field of a number in the range of a sample.
-fn field(number: i32) -> u32
-    requires { outside number ≡ false }
-    ensures value { result ≡ twos number }
-    ensures back { number_of (from_field result) ≡ number }
-    ensures bound { result < 16777216 }
+/// The unit of a length code and 24 bits.
+fn raw(code: u8, bits: Bits24) -> Am824Unit
+    ensures { result ≡ raw_field code (field bits) }
 {
-    if number < 0 {
-        (number + 16_777_216) as u32
-    } else {
-        number as u32
-    }
-}
-
-/// The unit of a length code and a field.
-fn raw(code: u8, field: u32) -> Am824Unit
-    requires { field < 16777216 }
-    ensures { result ≡ raw_field code field }
-{
-    let upper = (field / 256) as u16;
+    let [high, middle, low] = bits.to_bytes();
     match code {
-        0 => Am824Unit::Raw24(Bits24::joined(upper, (field % 256) as u8)),
-        1 => Am824Unit::Raw20(upper, Nibble::low((field / 16 % 256) as u8)),
-        _ => Am824Unit::Raw16(upper),
+        0 => Am824Unit::Raw24(bits),
+        1 => Am824Unit::Raw20(u16::from_be_bytes([high, middle]), Nibble::low(low / 16)),
+        _ => Am824Unit::Raw16(u16::from_be_bytes([high, middle])),
     }
 }
 
@@ -72,13 +58,14 @@ impl Sample {
         self.number
     }
 
+    // A method beside `of`: not every unit is a sample, and none is refused for that.
     /// The sample as a unit of a list.
     pub fn unit(self) -> Am824Unit
         ensures value { result ≡ raw_unit self.code self.number }
         ensures back { raw_of result ≡ Some (plain self) }
         ensures bytes { code_of result ≡ raw_bytes self.code self.number }
     {
-        raw(self.code, field(self.number))
+        raw(self.code, Bits24::low_bits(self.number))
     }
 
     /// The sample that a unit of a list is, if it is one.
@@ -93,7 +80,7 @@ impl Sample {
             }),
             Am824Unit::Raw20(upper, lower) => Some(Sample {
                 code: 1,
-                number: Bits24::joined(upper, 16 * lower.value()).number(),
+                number: Bits24::joined(upper, 16 * u8::from(lower)).number(),
             }),
             Am824Unit::Raw16(upper) => Some(Sample {
                 code: 2,
