@@ -1,6 +1,6 @@
 use Rattle.std.proofs.Common.{rules}
 use Rattle.reels.specs.Trailers.{trailer_bytes}
-use Rattle.reels.proofs.writing.trailer_bytes.Goals as goal
+use Rattle.reels.proofs.trailer.Trailer.to_bytes.Goals as goal
 
 pub returns : goal.returns
 unfolding trailer_bytes
