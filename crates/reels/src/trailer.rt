@@ -14,6 +14,7 @@ pub struct Trailer {
 
 impl Trailer {
     /// The twelve bytes of the trailer.
+    #[tactic(auto, unfolding(crate::specs::Trailers::trailer_bytes))]
     pub fn to_bytes(self) -> [u8; 12]
         ensures { result ≡ trailer_bytes self }
     {
