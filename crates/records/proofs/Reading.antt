@@ -1,11 +1,12 @@
 -- The records of some bytes, one after another.
-use Rattle.std.proofs.Common.{◌≡◌, ℕ, zero, suc, ◌-◌, ◌≤◌, Bool, true, false, List, [], ◌∷◌, length, drop, map, sym, refl, ap, ◌∙◌, arith}
+use Rattle.std.proofs.Common.{◌≡◌, ℕ, zero, suc, ◌-◌, ◌*◌, ◌≤◌, Bool, true, false, List, [], ◌∷◌, length, drop, map, sym, refl, ap, ◌∙◌, arith}
 use Rattle.std.proofs.lemmas.List.{length-drop, length-take-le}
 use Rattle.std.proofs.lemmas.List.Sums.{sum_by-cons}
 use Rattle.std.proofs.lemmas.Bool.{cond-true, cond-false, leb-true}
 use Rattle.faults.specs.declared.records.RecordPosition.{RecordPosition}
 use Rattle.reels.specs.Bytes.{two}
 use Rattle.reels.specs.Records.{Record, size_of, extent}
+use Rattle.reels.proofs.Records.{six_each}
 use Rattle.records.specs.Reading.{front_size, whole, front, up_to, records, behind, placed}
 
 pub up_to_none : (n : ℕ) (bs : List ℕ) → whole bs ≡ false → up_to n bs ≡ []
@@ -66,3 +67,10 @@ placed_more p bs r rest e f d =
 pub placed_records : (p : RecordPosition) (rs : List Record) → map (λ x. x.1) (placed p rs) ≡ rs
 placed_records p [] = refl
 placed_records p (r ∷ rs) = ap (λ xs. r ∷ xs) (placed_records (behind p r) rs)
+
+length_placed : (p : RecordPosition) (rs : List Record) → length (placed p rs) ≡ length rs
+length_placed p [] = refl
+length_placed p (r ∷ rs) = omega (arith, length_placed (behind p r) rs)
+
+pub few_placed : (p : RecordPosition) (bs : List ℕ) → 6 * length (placed p (records bs)) ≤ length bs
+few_placed p bs = omega (arith, length_placed p (records bs), six_each (records bs), records_inside bs)

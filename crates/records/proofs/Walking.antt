@@ -7,6 +7,7 @@ use Rattle.faults.specs.declared.records.RecordPosition.{RecordPosition}
 use Rattle.reels.specs.Records.{Record, size_of, extent, rises_after}
 use Rattle.reels.proofs.Records.{last_place_push, six_each}
 use Rattle.records.specs.declared.walk.Walk.{Walk}
+use Rattle.records.specs.Reading.{Placed}
 use Rattle.records.specs.Walking.{last_cycle, over, passed}
 
 and_true : (a : Bool) → (a && true) ≡ (true && a)
@@ -32,9 +33,6 @@ over_push rs r = λ i. record {
 }
 
 -- of all these records a walk has passed the first, and the last are left
-abbrev pub Placed : Type 0
-Placed = List (RecordPosition × Record)
-
 abbrev pub records_of : Placed → List Record
 records_of xs = map (λ x. x.1) xs
 

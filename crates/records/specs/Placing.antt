@@ -1,10 +1,9 @@
 -- Records as a reel's reader hands them out.
-use Rattle.std.specs.Prelude.{List}
 use Rattle.faults.specs.declared.records.RecordPosition.{RecordPosition}
 use Rattle.reels.specs.Records.{Record}
 use Rattle.records.specs.declared.sequence.Records.{Records}
 use Rattle.records.specs.declared.record.Record.{Record as Given}
-use Rattle.records.specs.Reading.{records, placed}
+use Rattle.records.specs.Reading.{Placed, records, placed}
 
 -- a record that is handed out, and one with its position
 abbrev pub seen : Given → Record
@@ -14,5 +13,5 @@ abbrev pub as_placed : RecordPosition × Given → RecordPosition × Record
 as_placed x = (x.0, seen x.1)
 
 -- the records that are still to come, each with its position
-abbrev pub records_left : Records → List (RecordPosition × Record)
+abbrev pub records_left : Records → Placed
 records_left it = placed it.position (records it.rest.now)

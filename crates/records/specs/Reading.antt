@@ -31,6 +31,9 @@ abbrev pub behind : RecordPosition → Record → RecordPosition
 behind p r = record { number = p.number + 1; place = p.place + size_of r }
 
 -- records with their positions, the first at p
-abbrev pub placed : RecordPosition → List Record → List (RecordPosition × Record)
+abbrev pub Placed : Type 0
+Placed = List (RecordPosition × Record)
+
+abbrev pub placed : RecordPosition → List Record → Placed
 placed p [] = []
 placed p (r ∷ rs) = (p, r) ∷ placed (behind p r) rs
