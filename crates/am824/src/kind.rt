@@ -22,7 +22,7 @@ impl Kind for Am824 {
 
     const EVT: u8 = 0;
 
-    ghost event = { 0 };
+    ghost EVT = { 0 };
 
     ghost size = { 1 };
 
@@ -57,10 +57,6 @@ impl Kind for Am824 {
         let c = slice_index_or bs 2 0 in
         let d = slice_index_or bs 3 0 in
         subst (Sound a b c d) e (sound a b c d) };
-
-    fn event() -> u8 {
-        Self::EVT
-    }
 
     fn size() -> u16 {
         1

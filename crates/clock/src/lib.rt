@@ -6,8 +6,9 @@
 #![tactic(auto)]
 
 ghost use Rattle.std.specs.Prelude.{◌≡◌, ℕ, ◌+◌, ◌*◌, ◌%◌, ◌<◌, ◌≤◌};
+ghost use Rattle.clock.specs.Counts.{gap_to};
 ghost use Rattle.clock.specs.Cycles.{not_later};
-ghost use Rattle.clock.specs.Ticks.{start as start_of, stamp as stamp_of, Told};
+ghost use Rattle.clock.specs.Ticks.{start as start_of, stamp as stamp_of, time_of, Told};
 
 /// The tick at which a cycle starts.
 pub fn start(cycle: u32) -> u64
@@ -20,10 +21,7 @@ pub fn start(cycle: u32) -> u64
 pub fn not_later(cycle: u32, last: Option<u32>) -> bool
     ensures { result ≡ not_later cycle last }
 {
-    match last {
-        Some(accepted) => cycle <= accepted,
-        None => false,
-    }
+    last.is_some_and(|accepted| cycle <= accepted)
 }
 
 /// The stamp of a time: its cycle modulo 16 in the upper four bits, its tick in the cycle below.
@@ -37,6 +35,7 @@ pub fn stamp(time: u64) -> u16
 
 /// The one time that a stamp tells in a cycle.
 pub fn told(cycle: u32, stamp: u16) -> u64
+    ensures value { result ≡ time_of cycle stamp }
     ensures tells { Told cycle stamp result }
     ensures only { (t : ℕ) → Told cycle stamp t → t ≡ result }
 {
@@ -47,6 +46,7 @@ pub fn told(cycle: u32, stamp: u16) -> u64
 
 /// How many blocks, fewer than 256, lead from the next number to one with this count.
 pub fn gap(next: u64, count: u8) -> u8
+    ensures value { result ≡ gap_to next count }
     ensures leads { (next + result) % 256 ≡ count }
     ensures few { result < 256 }
 {

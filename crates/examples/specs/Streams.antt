@@ -12,7 +12,7 @@ use Rattle.talkers.specs.Sending.{Desk, State, Score, blocks, packet_length, pac
 
 -- AM824 at 48 kHz, two units a block
 abbrev pub plan : Stream Am824Unit
-plan = record { size = 1; code = code; heard = heard; sfc = 2; dimension = 2; quadlets = 1; event = 0 }
+plan = record { size = 1; code = code; heard = heard; sfc = 2; dimension = 2; event = 0 }
 
 -- from node 1
 abbrev pub by : (ℕ → ℕ → ℕ) → ℕ → Desk Am824Unit

@@ -34,7 +34,7 @@ impl Kind for Word {
 
     const EVT: u8 = 2;
 
-    ghost event = { 2 };
+    ghost EVT = { 2 };
 
     ghost size = { 1 };
 
@@ -63,10 +63,6 @@ impl Kind for Word {
         (λ o. p o ∷ q o ∷ r o ∷ s o ∷ []) ∙ ap Words.code y) bs l k e };
 
     ghost inside = { Prim.search rules };
-
-    fn event() -> u8 {
-        Self::EVT
-    }
 
     fn size() -> u16 {
         1

@@ -24,10 +24,10 @@ left s list xs = (after_all s (begun list) xs).list
 
 -- the stream that a trailer names, of either kind
 abbrev pub am824_stream : Trailer → Stream Am824Unit
-am824_stream t = record { size = 1; code = am824_code; heard = am824_heard; sfc = t.sfc; dimension = t.dimension; quadlets = 1; event = 0 }
+am824_stream t = record { size = 1; code = am824_code; heard = am824_heard; sfc = t.sfc; dimension = t.dimension; event = 0 }
 
 abbrev pub pack_stream : Trailer → Stream PackUnit
-pack_stream t = record { size = 3; code = pack_code; heard = pack_heard; sfc = t.sfc; dimension = t.dimension; quadlets = 3; event = 1 }
+pack_stream t = record { size = 3; code = pack_code; heard = pack_heard; sfc = t.sfc; dimension = t.dimension; event = 1 }
 
 -- the records of a reel are heard by its stream, into the list of its kind; the other list stays
 module _ (reel : List ℕ) where

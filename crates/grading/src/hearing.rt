@@ -21,8 +21,8 @@ fn hear_record<K: Kind>(
     position: RecordPosition,
     list: &mut [K::Unit],
 ) -> Result<Heard, RecordFault>
-    ensures answer { result ≡ of_record position (answer_of (stream K.size K.code K.heard listener.old.plan) (record { state = state listener.old; list = list.old }) (seen next.entry)) }
-    ensures left { record { state = state listener.new; list = list.new } ≡ after (stream K.size K.code K.heard listener.old.plan) (record { state = state listener.old; list = list.old }) (seen next.entry) }
+    ensures answer { result ≡ of_record position (answer_of (stream listener.old.plan) (record { state = state listener.old; list = list.old }) (seen next.entry)) }
+    ensures left { record { state = state listener.new; list = list.new } ≡ after (stream listener.old.plan) (record { state = state listener.old; list = list.old }) (seen next.entry) }
     ensures same { listener.new.plan ≡ listener.old.plan }
 {
     Ok(listener.hear(next.cycle, next.packet, list).at(position)?)
@@ -50,8 +50,8 @@ pub(crate) fn hear_records<K: Kind>(
     records: Records<'_>,
     list: &mut [K::Unit],
 ) -> Report
-    ensures report { result ≡ report (stream K.size K.code K.heard plan) list.old (records_left records.entry) }
-    ensures list { list.new ≡ left (stream K.size K.code K.heard plan) list.old (records_left records.entry) }
+    ensures report { result ≡ report (stream plan) list.old (records_left records.entry) }
+    ensures list { list.new ≡ left (stream plan) list.old (records_left records.entry) }
 {
     let mut listener = Listener::new(plan);
     let mut tally = Tally::default();

@@ -14,17 +14,13 @@ pub trait Kind {
     /// The event type, EVT, of the packets that carry this kind.
     const EVT: u8;
 
-    ghost event: { ℕ };
+    ghost EVT: { ℕ };
 
     ghost size: { ℕ };
 
     ghost code: { Self.Unit → List ℕ };
 
     ghost heard: { List ℕ → Answer Self.Unit UnitFault };
-
-    /// EVT, as generic code asks for it.
-    fn event() -> u8
-        ensures { result ≡ event };
 
     /// The quadlets of a unit, 1 to 1,022.
     fn size() -> u16
@@ -45,7 +41,7 @@ pub trait Kind {
 
     ghost most: { size ≤ 1022 };
 
-    ghost typed: { event ≤ 3 };
+    ghost typed: { EVT ≤ 3 };
 
     ghost long: { (u : Self.Unit) → length (code u) ≡ 4 * size };
 

@@ -1,7 +1,9 @@
 -- What a hearing answers and leaves, for every cycle, packet and list.
-use Rattle.std.specs.Prelude.{◌≡◌, ℕ, ◌+◌, ◌-◌, ◌*◌, ◌/◌, ◌%◌, cond, ◌||◌, List, length, drop, Some, None, Ok, Err, Option, Result, ◌==◌, nat_lt}
+use Rattle.std.specs.Prelude.{◌≡◌, ℕ, ◌+◌, ◌*◌, ◌/◌, ◌%◌, cond, List, length, drop, Some, None, Ok, Err, Option, Result, nat_lt}
+use Rattle.std.specs.Option.{option_map}
+use Rattle.clock.specs.Counts.{gap_to}
 use Rattle.clock.specs.Cycles.{not_later}
-use Rattle.clock.specs.Ticks.{start, ticks}
+use Rattle.clock.specs.Ticks.{time_of}
 use Rattle.faults.specs.declared.located.Located.{Located}
 use Rattle.faults.specs.declared.packets.PacketFault.{PacketFault}
 use Rattle.faults.specs.declared.packets.PacketFault.TheVariants.{Cycle, List as ListCase}
@@ -9,7 +11,7 @@ use Rattle.faults.specs.declared.packets.UnitPosition.{UnitPosition}
 use Rattle.faults.specs.declared.units.UnitFault.{UnitFault}
 use Rattle.faults.specs.Outcomes.{answered, changed}
 use Rattle.faults.specs.Packets.{carried}
-use Rattle.packets.specs.Sorting.{idle, blocks, dbc_of, syt_of, refusal}
+use Rattle.packets.specs.Sorting.{idle, blocks, dbc_of, stamp_of, refusal}
 use Rattle.plans.specs.Streams.{Stream, unit_bytes}
 use Rattle.units.specs.Rows.{row, over}
 use Rattle.listeners.specs.declared.heard.Heard.{Heard}
@@ -20,14 +22,6 @@ pub record State : Type 0 where
   pub heard : ℕ
   pub missed : ℕ
   pub last : Option ℕ
-
--- the blocks missing from the next number to one with this count
-abbrev pub gap_to : ℕ → ℕ → ℕ
-gap_to next dbc = (dbc + 256 - next % 256) % 256
-
--- the time that a stamp tells in a cycle
-abbrev pub time_of : ℕ → ℕ → ℕ
-time_of c syt = start c + (ticks syt % 49152 + 49152 - start c % 49152) % 49152
 
 -- where the unit at an index of a packet stands: its block, its index there, its first byte
 abbrev pub position_of : ℕ → ℕ → ℕ → UnitPosition
@@ -42,6 +36,16 @@ unit_refusal s (Err at) = Some (carried (record { position = position_of (unit_b
 abbrev pub list_refusal : {U : Type 0} → Stream U → ℕ → Result (List U) (Located ℕ UnitFault) → ℕ → Option PacketFault
 list_refusal s n units room = cond (nat_lt room n) (Some ListCase) (unit_refusal s units)
 
+-- the units of so many blocks of a packet; why they are not read into a list of this length, or the list with them at its front
+abbrev pub units_of : {U : Type 0} → Stream U → ℕ → List ℕ → Result (List U) (Located ℕ UnitFault)
+units_of s n packet = row (unit_bytes s) s.heard (s.dimension * n) (drop 8 packet)
+
+abbrev pub read_refusal : {U : Type 0} → Stream U → ℕ → List ℕ → ℕ → Option PacketFault
+read_refusal s n packet room = list_refusal s (s.dimension * n) (units_of s n packet) room
+
+abbrev pub filled : {U : Type 0} → Stream U → ℕ → List ℕ → List U → List U
+filled s n packet list = over (s.dimension * n) (units_of s n packet) list
+
 -- a refusal, or the next one
 abbrev pub or_else : {E : Type 0} → Option E → Option E → Option E
 or_else (Some f) o = Some f
@@ -49,7 +53,7 @@ or_else None o = o
 
 -- the time of the stamped block, if there is a stamp
 abbrev pub time : ℕ → List ℕ → Option ℕ
-time c packet = cond (idle packet || syt_of packet == 0xffff) None (Some (time_of c (syt_of packet)))
+time c packet = cond (idle packet) None (option_map (time_of c) (stamp_of packet))
 
 module _ {U : Type 0} (s : Stream U) (packet : List ℕ) where
   -- an idle packet counts no blocks
@@ -57,7 +61,7 @@ module _ {U : Type 0} (s : Stream U) (packet : List ℕ) where
   count = cond (idle packet) 0 (blocks s packet)
 
   abbrev pub units : Result (List U) (Located ℕ UnitFault)
-  units = row (unit_bytes s) s.heard (s.dimension * count) (drop 8 packet)
+  units = units_of s count packet
 
 module _ {U : Type 0} (s : Stream U) (c : ℕ) (packet : List ℕ) (t : State) where
   abbrev pub gap : ℕ
@@ -75,10 +79,10 @@ module _ {U : Type 0} (s : Stream U) (c : ℕ) (packet : List ℕ) (t : State) w
 
   -- why it is not accepted for a list of so many units: the smallest number wins
   abbrev pub hear_refusal : ℕ → Option PacketFault
-  hear_refusal room = or_else weigh_refusal (list_refusal s (s.dimension * count s packet) (units s packet) room)
+  hear_refusal room = or_else weigh_refusal (read_refusal s (count s packet) packet room)
 
   -- what a hearing answers, the list that it leaves, and the state that it leaves
   pub record Hears (list : List U) (r : Result Heard PacketFault) (list' : List U) (t' : State) : Type 0 where
     pub answer : r ≡ answered (hear_refusal (length list)) brought
-    pub left : list' ≡ changed (hear_refusal (length list)) list (over (s.dimension * count s packet) (units s packet) list)
+    pub left : list' ≡ changed (hear_refusal (length list)) list (filled s (count s packet) packet list)
     pub state : t' ≡ changed (hear_refusal (length list)) t next_state

@@ -37,7 +37,7 @@ impl Kind for Pack {
 
     const EVT: u8 = 1;
 
-    ghost event = { 1 };
+    ghost EVT = { 1 };
 
     ghost size = { 3 };
 
@@ -71,10 +71,6 @@ impl Kind for Pack {
         bs len fit is };
 
     ghost inside = { Prim.search rules };
-
-    fn event() -> u8 {
-        Self::EVT
-    }
 
     fn size() -> u16 {
         3

@@ -18,6 +18,10 @@ dbc_of bs = byte bs 3
 abbrev pub syt_of : List ℕ → ℕ
 syt_of bs = 256 * byte bs 6 + byte bs 7
 
+-- SYT, unless it is FFFFh, which is no time
+abbrev pub stamp_of : List ℕ → Option ℕ
+stamp_of bs = cond (syt_of bs == 0xffff) None (Some (syt_of bs))
+
 -- idle packets have FDF FFh
 abbrev pub idle : List ℕ → Bool
 idle bs = byte bs 5 == 0xff

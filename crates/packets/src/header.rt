@@ -21,15 +21,9 @@ impl Header {
     pub fn to_bytes(self) -> [u8; 8]
         ensures { result ≡ header_bytes self.sid self.dbs self.dbc self.fdf self.syt }
     {
+        let [upper, lower] = self.syt.to_be_bytes();
         [
-            self.sid,
-            self.dbs,
-            0,
-            self.dbc,
-            0x90,
-            self.fdf,
-            (self.syt / 256) as u8,
-            (self.syt % 256) as u8,
+            self.sid, self.dbs, 0, self.dbc, 0x90, self.fdf, upper, lower,
         ]
     }
 }

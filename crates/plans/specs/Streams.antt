@@ -9,15 +9,14 @@ pub record Stream (U : Type 0) : Type 0 where
   pub size : ℕ
   pub code : U → List ℕ
   pub heard : List ℕ → Result U UnitFault
+  pub event : ℕ
   pub sfc : ℕ
   pub dimension : ℕ
-  pub quadlets : ℕ
-  pub event : ℕ
 
--- the stream of a plan, for a kind that means this
-abbrev pub stream : {X U : Type 0} {K : Ghosts X U} → ℕ → (U → List ℕ) → (List ℕ → Result U UnitFault) → Plan X U K → Stream U
-stream size code heard p =
-    record { size = size; code = code; heard = heard; sfc = p.sfc; dimension = p.dimension; quadlets = p.quadlets; event = p.event }
+-- the stream of a plan
+abbrev pub stream : {X U : Type 0} {K : Ghosts X U} → Plan X U K → Stream U
+stream {K = K} p =
+    record { size = K.size; code = K.code; heard = K.heard; event = K.EVT; sfc = p.sfc; dimension = p.dimension }
 
 module _ {U : Type 0} (s : Stream U) where
   -- SYT_INTERVAL
@@ -26,7 +25,7 @@ module _ {U : Type 0} (s : Stream U) where
 
   -- DBS and FDF
   abbrev pub dbs : ℕ
-  dbs = s.dimension * s.quadlets
+  dbs = s.dimension * s.size
 
   abbrev pub fdf : ℕ
   fdf = 16 * s.event + s.sfc

@@ -8,9 +8,7 @@ use crate::rate::Rate;
 pub fn default_delay(sfc: u8, blocking: bool) -> Result<u16, PlanFault>
     ensures { result ≡ default_delay sfc blocking }
 {
-    let Some(rate) = Rate::of(sfc) else {
-        return Err(PlanFault::Rate);
-    };
+    let rate = Rate::of(sfc).ok_or(PlanFault::Rate)?;
     if !blocking {
         return Ok(8_704);
     }

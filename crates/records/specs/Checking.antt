@@ -74,5 +74,5 @@ module _ (bs : List ℕ) where
 
 -- the plan of the stream that a trailer names
 abbrev pub Names : Trailer → ReelPlan → Type 0
-Names t (Am824 p) = (t.event ≡ 0) × (p.sfc ≡ t.sfc) × (p.dimension ≡ t.dimension) × (p.quadlets ≡ 1) × (p.event ≡ 0)
-Names t (Pack p) = (t.event ≡ 1) × (p.sfc ≡ t.sfc) × (p.dimension ≡ t.dimension) × (p.quadlets ≡ 3) × (p.event ≡ 1)
+Names t (Am824 p) = (t.event ≡ 0) × (p.sfc ≡ t.sfc) × (p.dimension ≡ t.dimension)
+Names t (Pack p) = (t.event ≡ 1) × (p.sfc ≡ t.sfc) × (p.dimension ≡ t.dimension)

@@ -15,7 +15,7 @@ use Rattle.reels.specs.Writing.{view, written, Closed}
 use Rattle.records.specs.Laws.{Found}
 
 abbrev pub plan : ReelPlan
-plan = Am824 (record { kind = record {}; sfc = 2; dimension = 2; quadlets = 1; event = 0; rated = lit≤ tt; some = lit≤ tt; sized = lit≤ tt; typed = lit≤ tt; fits = lit≤ tt })
+plan = Am824 (record { kind = record {}; sfc = 2; dimension = 2; rated = lit≤ tt; some = lit≤ tt; fits = lit≤ tt })
 
 abbrev pub silent : List ℕ
 silent = flat_map (λ (n : ℕ). 0x40 ∷ n ∷ n ∷ n ∷ []) (replicate 14 0)

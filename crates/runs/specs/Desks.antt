@@ -10,7 +10,7 @@ use Rattle.talkers.specs.Sending.{Desk}
 
 -- at the rate of this sampling frequency code
 abbrev pub at_rate : ℕ → Stream Am824Unit
-at_rate sfc = record { size = 1; code = code; heard = heard; sfc = sfc; dimension = 1; quadlets = 1; event = 0 }
+at_rate sfc = record { size = 1; code = code; heard = heard; sfc = sfc; dimension = 1; event = 0 }
 
 -- without blocking, from node 1
 abbrev pub desk_at : ℕ → Desk Am824Unit

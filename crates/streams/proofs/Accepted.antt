@@ -2,6 +2,7 @@
 use Rattle.std.proofs.Common.{◌≡◌, ℕ, ◌+◌, ◌*◌, ◌%◌, ◌<◌, ◌≤◌, Bool, true, false, cond, ltb, List, ◌++◌, length, take, drop, Some, None, Ok, Err, Option, Result, sym, refl, ap, ◌∙◌, arith}
 use Rattle.std.specs.List.{flat_map}
 use Rattle.std.proofs.lemmas.Bool.{leb-false}
+use Rattle.clock.specs.Counts.{gap_to}
 use Rattle.clock.specs.Cycles.{not_later}
 use Rattle.clock.specs.Ticks.{start as tick}
 use Rattle.faults.specs.declared.located.Located.{Located}
@@ -19,7 +20,7 @@ use Rattle.talkers.specs.Sending.{Desk, Score, State as Talker, due, syt_for, ba
 use Rattle.talkers.proofs.Sending.{good}
 use Rattle.units.specs.Rows.{over}
 use Rattle.listeners.specs.declared.heard.Heard.{Heard}
-use Rattle.listeners.specs.Hearing.{State as Listener, count, units, gap_to, time, next_state, unit_refusal, weigh_refusal, hear_refusal, or_else, Hears}
+use Rattle.listeners.specs.Hearing.{State as Listener, count, units, time, next_state, unit_refusal, weigh_refusal, hear_refusal, or_else, Hears}
 
 -- what a kind, a method and a plan keep, so far as runs need it
 pub record DeskLaws {U : Type 0} (d : Desk U) : Type 0 where
@@ -79,7 +80,7 @@ module _ {U : Type 0} (d : Desk U) (s : Score U) where
       → Sends d s t c bytes (Ok (record { blocks = n; length = len })) bytes' t' → SendAccepted t c bytes n len bytes' t'
   sent_accepted t c bytes n len bytes' t' h =
       let o = was_ok (send_refusal d s t c (length bytes)) _ _ h.answer in
-      let a = cond_none (bad_score d s t c) ScoreFault _ o.0 in
+      let a = cond_none (bad_score d s t) ScoreFault _ o.0 in
       let b = cond_none (not_later c t.last) CycleFault _ a.1 in
       let g = good d s t c a.0 in
       let count : n ≡ taken t.place c = ap (λ (x : Sent). x.blocks) o.1 in

@@ -1,24 +1,27 @@
 -- What a listener hears of what a talker sent: the packet comes back as it was made.
 use Rattle.std.proofs.Common.{◌≡◌, ℕ, ◌+◌, ◌-◌, ◌*◌, ◌/◌, ◌%◌, ◌<◌, ◌≤◌, true, false, cond, ◌&&◌, eqb, ltb, leb, List, [], ◌++◌, length, get_or, take, drop, Some, None, Ok, Option, sym, ap, ◌∙◌, subst, ⊎_elim, mul_assoc, mul_comm, mul-le-mul_left, mul-pos, arith}
 use native.Mathlib.Nat.{mul-div_left}
+use Rattle.std.specs.Prelude.{unwrap_or}
+use Rattle.std.specs.Option.{option_map}
 use Rattle.std.specs.List.{flat_map, AllByRecursion, range_with_len}
 use Rattle.std.proofs.ByRecursion.{All-map}
 use Rattle.std.proofs.lemmas.List.{length-append, length-take-le, length-drop, take_at, drop-append-le, take-append-le, drop-take, drop-drop, take-take, get_or-drop, append-nil}
 use Rattle.std.proofs.lemmas.List.Sums.{prefix_len-le-length}
-use Rattle.std.proofs.lemmas.Bool.{cond-true, cond-false, eq-eqb, ne_eqb, lt-ltb, le-leb, lt-leb, and_from, and_right, or_from, or_right, cases_eq, cases_lt}
-use Rattle.clock.specs.Ticks.{start as tick, stamp, ticks}
+use Rattle.std.proofs.lemmas.Bool.{cond-true, cond-false, eq-eqb, ne_eqb, lt-ltb, le-leb, lt-leb, and_from, and_right, cases_eq, cases_lt}
+use Rattle.clock.specs.Counts.{gap_to}
+use Rattle.clock.specs.Ticks.{start as tick, stamp, ticks, time_of}
 use Rattle.packets.specs.Headers.{header_bytes}
 use Rattle.packets.specs.Sorting.{idle, dbc_of, syt_of}
 use Rattle.plans.specs.Rates.{interval}
 use Rattle.plans.specs.Stamps.{stamped_index}
 use Rattle.plans.specs.Streams.{every, dbs, fdf, block_bytes}
 use Rattle.plans.proofs.Intervals.{at_intervals}
-use Rattle.talkers.specs.Sending.{Desk, Score, State as Talker, due}
+use Rattle.talkers.specs.Sending.{Desk, Score, State as Talker, due, stamp_for}
 use Rattle.units.specs.Rows.{row}
 use Rattle.units.proofs.Laying.{length_joined}
 use Rattle.units.proofs.Rows.{row_joined}
 use Rattle.listeners.specs.declared.heard.Heard.{Heard}
-use Rattle.listeners.specs.Hearing.{State as Listener, count, gap_to, time_of, time}
+use Rattle.listeners.specs.Hearing.{State as Listener, count, time}
 use Rattle.streams.specs.Runs.{Packet, Block, block_heard, blocks_heard}
 use Rattle.streams.specs.Laws.{time_due, DueATime}
 use Rattle.streams.proofs.Accepted.{DeskLaws, taken, units_of, stamp_of, wire, SendAccepted, HearAccepted}
@@ -208,9 +211,9 @@ module _ {U : Type 0} (d : Desk U) (s : Score U) (ok : DeskLaws d) where
       P : ℕ
       P = time_due d s (place + k)
 
-      -- SYT by the stamped block
-      stamp_here : stamp_of d s place q.count q.cycle ≡ cond (ltb k q.count && leb (tick q.cycle) (time_due d s (place + k))) (stamp (time_due d s (place + k))) 0xffff
-      stamp_here = ap (λ i. cond (ltb i q.count && leb (tick q.cycle) (time_due d s (place + i))) (stamp (time_due d s (place + i))) 0xffff) (sym here)
+      -- the stamp by the stamped block
+      stamp_here : stamp_for (every d.stream) d.delay s.arrivals place q.count q.cycle ≡ cond (ltb k q.count && leb (tick q.cycle) (time_due d s (place + k))) (Some (stamp (time_due d s (place + k)))) None
+      stamp_here = ap (λ i. cond (ltb i q.count && leb (tick q.cycle) (time_due d s (place + i))) (Some (stamp (time_due d s (place + i)))) None) (sym here)
 
       pub stamp_back : (tick q.cycle ≤ time_due d s (place + k) → time q.cycle q.bytes ≡ Some (time_due d s (place + k)))
           × (time_due d s (place + k) < tick q.cycle → time q.cycle q.bytes ≡ None)
@@ -220,12 +223,13 @@ module _ {U : Type 0} (d : Desk U) (s : Score U) (ok : DeskLaws d) where
           let syt = syt_of q.bytes in
           let inside_now : ltb k q.count ≡ true = lt-ltb k q.count h in (
             λ early.
-                let value : syt ≡ stamp p = syt_back ∙ stamp_here ∙ cond-true _ _ _ (and_from _ _ inside_now (le-leb (tick c) p early)) in
+                let value : syt ≡ stamp p = syt_back ∙ ap (λ o. unwrap_or o 0xffff) (stamp_here ∙ cond-true _ _ _ (and_from _ _ inside_now (le-leb (tick c) p early))) in
                 let told : eqb syt 0xffff ≡ false = ne_eqb syt 0xffff (λ e. not_silent p (sym value ∙ e)) in
-                cond-false _ _ _ (or_from _ _ not_idle told) ∙ ap Some (time_right c p syt value early (omega (arith, arrived k h, ok.delay_most))),
+                cond-false _ _ _ not_idle ∙ ap (option_map (time_of c)) (cond-false _ _ _ told) ∙ ap Some (time_right c p syt value early (omega (arith, arrived k h, ok.delay_most))),
             λ late.
-                let value : syt ≡ 0xffff = syt_back ∙ stamp_here ∙ cond-false _ _ _ (and_right _ _ (lt-leb (tick c) p late)) in
-                cond-true _ _ _ (or_right (idle q.bytes) _ (eq-eqb syt 0xffff value)),
+                let none : stamp_for (every d.stream) d.delay s.arrivals place q.count c ≡ None = stamp_here ∙ cond-false _ _ _ (and_right (ltb k q.count) _ (lt-leb (tick c) p late)) in
+                let value : syt ≡ 0xffff = syt_back ∙ ap (λ o. unwrap_or o 0xffff) none in
+                cond-false _ _ _ not_idle ∙ ap (option_map (time_of c)) (cond-true _ _ _ (eq-eqb syt 0xffff value)),
           )
 
     pub record BlockRight (b : Block U) : Type 0 where

@@ -20,7 +20,7 @@ impl<K: Kind, M: Method> Trio<K, M> {
         bytes: &mut [u8],
         list: &mut [K::Unit],
     ) -> Result<Relayed, SendFault>
-        ensures relays { Relays (desk K.size K.code K.heard M.takes self.old.talker) (stream K.size K.code K.heard self.old.first.plan) (score_of score.entry.arrivals.now score.entry.units.now) cycle bytes.old bytes.new list.old list.new (three self.old) (three self.new) result }
+        ensures relays { Relays (desk M.takes self.old.talker) (stream self.old.first.plan) (score_of score.entry.arrivals.now score.entry.units.now) cycle bytes.old bytes.new list.old list.new (three self.old) (three self.new) result }
         ensures same { SameMakings self.old self.new }
     {
         let sent = self.talker.send(score, cycle, bytes)?;

@@ -27,13 +27,13 @@ module _ {U : Type 0} (d : Desk U) (s : Score U) (t : State) (c : ℕ) where
     pub fit : length s.units ≡ d.stream.dimension * length s.arrivals
     pub reached : t.place ≤ length s.arrivals
 
-  pub good : bad_score d s t c ≡ false → Good
+  pub good : bad_score d s t ≡ false → Good
   good e =
       let p = or_parts _ _ e in
       let q = or_parts _ _ p.1 in
       record { few = ltb-false _ _ p.0; fit = eqb-true _ _ (not-false _ q.0); reached = ltb-false _ _ q.1 }
 
-  module _ (score : bad_score d s t c ≡ false) (later : not_later c t.last ≡ false) (bytes : List ℕ) where
+  module _ (score : bad_score d s t ≡ false) (later : not_later c t.last ≡ false) (bytes : List ℕ) where
     -- a send with this refusal, or none
     by_refusal : (o : Option SendFault) → send_refusal d s t c (length bytes) ≡ o
         → Sends d s t c bytes (answered o (record { blocks = blocks d s t c; length = packet_length d s t c })) (changed o bytes (packet d s t c ++ drop (packet_length d s t c) bytes)) (changed o t (record { place = t.place + blocks d s t c; last = Some c }))

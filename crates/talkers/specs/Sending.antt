@@ -1,5 +1,5 @@
 -- What a send answers and leaves, for every score, cycle and bytes.
-use Rattle.std.specs.Prelude.{◌≡◌, ℕ, ◌+◌, ◌*◌, ◌%◌, Bool, cond, not, ◌&&◌, ◌||◌, leb, List, ◌++◌, length, take, drop, Some, None, Option, Result, ◌==◌, nat_le, nat_lt, slice_index}
+use Rattle.std.specs.Prelude.{◌≡◌, ℕ, ◌+◌, ◌*◌, ◌%◌, Bool, cond, not, ◌&&◌, ◌||◌, leb, List, ◌++◌, length, take, drop, Some, None, Option, Result, ◌==◌, nat_le, nat_lt, unwrap_or, slice_index}
 use Rattle.std.specs.List.{flat_map, prefix_len}
 use Rattle.clock.specs.Cycles.{not_later}
 use Rattle.clock.specs.Ticks.{start, stamp}
@@ -35,17 +35,22 @@ due by arrivals = prefix_len (λ a. leb a by) arrivals
 abbrev pub presented : ℕ → List ℕ → ℕ → ℕ
 presented delay arrivals n = slice_index arrivals n + delay
 
--- SYT of a packet of so many blocks from a place on: FFFFh without a stamped block, or with one that is late
-abbrev pub syt_for : ℕ → ℕ → List ℕ → ℕ → ℕ → ℕ → ℕ
-syt_for interval delay arrivals place blocks c =
+-- the stamp of a packet of so many blocks from a place on: none without a stamped block, or with one that is late
+abbrev pub stamp_for : ℕ → ℕ → List ℕ → ℕ → ℕ → ℕ → Option ℕ
+stamp_for interval delay arrivals place blocks c =
     cond (nat_lt (stamped_index interval place) blocks && nat_le (start c) (presented delay arrivals (place + stamped_index interval place)))
-    (stamp (presented delay arrivals (place + stamped_index interval place))) 0xffff
+    (Some (stamp (presented delay arrivals (place + stamped_index interval place)))) None
 
-module _ {U : Type 0} (d : Desk U) (s : Score U) (t : State) (c : ℕ) where
+-- SYT: the stamp, or FFFFh for none
+abbrev pub syt_for : ℕ → ℕ → List ℕ → ℕ → ℕ → ℕ → ℕ
+syt_for interval delay arrivals place blocks c = unwrap_or (stamp_for interval delay arrivals place blocks c) 0xffff
+
+module _ {U : Type 0} (d : Desk U) (s : Score U) (t : State) where
   -- too many blocks, other units than the blocks want, or fewer blocks than were sent
   abbrev pub bad_score : Bool
   bad_score = nat_lt 65536 (length s.arrivals) || (not (length s.units == d.stream.dimension * length s.arrivals) || nat_lt (length s.arrivals) t.place)
 
+module _ {U : Type 0} (d : Desk U) (s : Score U) (t : State) (c : ℕ) where
   -- the blocks that the method takes of the due ones
   abbrev pub blocks : ℕ
   blocks = d.takes (due (start c) (drop t.place s.arrivals)) (every d.stream)
@@ -64,7 +69,7 @@ module _ {U : Type 0} (d : Desk U) (s : Score U) (t : State) (c : ℕ) where
 
   -- why nothing is sent to so many bytes: the score and the cycle are looked at before the method is asked
   abbrev pub send_refusal : ℕ → Option SendFault
-  send_refusal room = cond bad_score (Some ScoreCase) (cond (not_later c t.last) (Some Cycle) (cond (nat_lt room packet_length) (Some Room) None))
+  send_refusal room = cond (bad_score d s t) (Some ScoreCase) (cond (not_later c t.last) (Some Cycle) (cond (nat_lt room packet_length) (Some Room) None))
 
   -- what a send answers, the bytes that it leaves, and the state that it leaves
   pub record Sends (bytes : List ℕ) (r : Result Sent SendFault) (bytes' : List ℕ) (t' : State) : Type 0 where

@@ -1,14 +1,13 @@
 -- A talker and a score as contracts speak of them.
-use Rattle.std.specs.Prelude.{◌≡◌, ℕ, List, Result}
-use Rattle.faults.specs.declared.units.UnitFault.{UnitFault}
+use Rattle.std.specs.Prelude.{◌≡◌, ℕ, List}
 use Rattle.kinds.specs.declared.kind.Kind.{Ghosts}
 use Rattle.plans.specs.Streams.{stream}
 use Rattle.talkers.specs.declared.talker.Talker.{Talker}
 use Rattle.talkers.specs.Sending.{Desk, State, Score}
 
--- what a talker is made of, for a kind and a method that mean this
-abbrev pub desk : {X M U : Type 0} {K : Ghosts X U} → ℕ → (U → List ℕ) → (List ℕ → Result U UnitFault) → (ℕ → ℕ → ℕ) → Talker X M U K → Desk U
-desk size code heard takes t = record { stream = stream size code heard t.plan; takes = takes; sid = t.sid; delay = t.delay }
+-- what a talker is made of, for a method that means this
+abbrev pub desk : {X M U : Type 0} {K : Ghosts X U} → (ℕ → ℕ → ℕ) → Talker X M U K → Desk U
+desk takes t = record { stream = stream t.plan; takes = takes; sid = t.sid; delay = t.delay }
 
 -- what it keeps
 abbrev pub state : {X M U : Type 0} {K : Ghosts X U} → Talker X M U K → State

@@ -3,6 +3,8 @@ ghost use Rattle.std.specs.Prelude.{◌≤◌};
 use kinds::Kind;
 use plans::Plan;
 
+mod blocks;
+mod header;
 mod methods;
 mod parts;
 mod send;

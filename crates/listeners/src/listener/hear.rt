@@ -6,27 +6,28 @@ ghost use Rattle.listeners.specs.Views.{state};
 
 use crate::heard::Heard;
 use crate::listener::Listener;
-use crate::listener::parts::{count_of, gap_to, read_units, time_in};
-use clock::not_later;
+use crate::listener::parts::{count_of, read_units, time_in};
+use clock::{gap, not_later};
 use faults::PacketFault;
 use kinds::Kind;
-use packets::sort;
+use packets::Packet;
 
 impl<K: Kind> Listener<K> {
     /// What a packet brings, its units aside; nothing is changed.
     fn weigh(&self, cycle: u32, packet: &[u8]) -> Result<Heard, PacketFault>
-        ensures { result ≡ answered (weigh_refusal (stream K.size K.code K.heard self.now.plan) cycle packet.now (state self.now)) (brought (stream K.size K.code K.heard self.now.plan) cycle packet.now (state self.now)) }
+        ensures { result ≡ answered (weigh_refusal (stream self.now.plan) cycle packet.now (state self.now)) (brought (stream self.now.plan) cycle packet.now (state self.now)) }
     {
         if not_later(cycle, self.last) {
             return Err(PacketFault::Cycle);
         }
-        sort(&self.plan, packet)?;
-        let gap = gap_to(self.next, packet[3]);
+        let packet = Packet::new(packet)?;
+        packet.sort(&self.plan)?;
+        let gap = gap(self.next, packet.dbc());
         Ok(Heard {
             gap,
             first: self.next + gap as u64,
-            blocks: count_of(&self.plan, packet),
-            time: time_in(cycle, packet),
+            blocks: count_of(&self.plan, &packet),
+            time: time_in(cycle, &packet),
         })
     }
 
@@ -38,7 +39,7 @@ impl<K: Kind> Listener<K> {
         packet: &[u8],
         list: &mut [K::Unit],
     ) -> Result<Heard, PacketFault>
-        ensures hears { Hears (stream K.size K.code K.heard self.old.plan) cycle packet.now (state self.old) list.old result list.new (state self.new) }
+        ensures hears { Hears (stream self.old.plan) cycle packet.now (state self.old) list.old result list.new (state self.new) }
         ensures same { self.new.plan ≡ self.old.plan }
     {
         let heard = self.weigh(cycle, packet)?;

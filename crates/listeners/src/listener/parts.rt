@@ -1,52 +1,34 @@
-ghost use Rattle.std.specs.Prelude.{◌≡◌, ◌+◌, ◌*◌, ◌≤◌, length, drop, Err};
+ghost use Rattle.std.specs.Prelude.{◌≡◌, ◌+◌, ◌*◌, ◌≤◌, length};
 ghost use Rattle.faults.specs.Outcomes.{answered, changed};
 ghost use Rattle.faults.specs.Packets.{carried};
 ghost use Rattle.plans.specs.Streams.{stream};
-ghost use Rattle.units.specs.Rows.{row, over};
-ghost use Rattle.listeners.specs.Hearing.{gap_to, time_of, count, time, position_of, list_refusal};
+ghost use Rattle.listeners.specs.Hearing.{count, time, position_of, read_refusal, filled};
 
-use clock::{gap, told};
-use faults::{Locate, PacketFault, UnitFault, UnitPosition};
+use clock::told;
+use faults::{Located, PacketFault, UnitFault, UnitPosition};
 use kinds::Kind;
+use packets::Packet;
 use plans::Plan;
 use units::{RowFault, read_row};
 
-/// The gap as a number modulo 256.
-pub fn gap_to(next: u64, count: u8) -> u8
-    ensures { result ≡ gap_to next count }
-{
-    gap(next, count)
-}
-
-/// The time of a stamp as one sum.
-pub fn time_of(cycle: u32, syt: u16) -> u64
-    ensures { result ≡ time_of cycle syt }
-{
-    told(cycle, syt)
-}
-
 /// How many blocks a packet counts: an idle one none.
-pub fn count_of<K: Kind>(plan: &Plan<K>, packet: &[u8]) -> u32
-    requires long { 8 ≤ length packet.now }
-    requires short { length packet.now ≤ 4096 }
-    ensures { result ≡ count (stream K.size K.code K.heard plan.now) packet.now }
+pub fn count_of<K: Kind>(plan: &Plan<K>, packet: &Packet<'_>) -> u32
+    ensures { result ≡ count (stream plan.now) packet.now.bytes.now }
 {
-    if packet[5] == 0xff {
+    if packet.is_idle() {
         return 0;
     }
-    ((packet.len() - 8) / plan.block_bytes()) as u32
+    packet.blocks(plan) as u32
 }
 
 /// The time of a packet's stamped block, if it has one.
-pub fn time_in(cycle: u32, packet: &[u8]) -> Option<u64>
-    requires { 8 ≤ length packet.now }
-    ensures { result ≡ time cycle packet.now }
+pub fn time_in(cycle: u32, packet: &Packet<'_>) -> Option<u64>
+    ensures { result ≡ time cycle packet.now.bytes.now }
 {
-    let syt = 256 * (packet[6] as u16) + packet[7] as u16;
-    if packet[5] == 0xff || syt == 0xffff {
+    if packet.is_idle() {
         return None;
     }
-    Some(time_of(cycle, syt))
+    packet.stamp().map(|stamp| told(cycle, stamp))
 }
 
 /// Where the unit at an index of a packet stands.
@@ -63,12 +45,15 @@ fn position<K: Kind>(dimension: u16, index: usize) -> UnitPosition
     }
 }
 
-/// A unit's fault as the packet's.
-fn carry(fault: UnitFault, position: UnitPosition) -> Result<(), PacketFault>
-    ensures { result ≡ Err (carried (record { position = position; fault = fault })) }
+/// The fault of the unit at an index of a packet, as the packet's.
+fn unit_fault<K: Kind>(dimension: u16, at: Located<usize, UnitFault>) -> PacketFault
+    requires some { 1 ≤ dimension }
+    requires inside { 8 + 4 * K.size * at.position ≤ 4096 }
+    ensures { result ≡ carried (record { position = position_of (4 * K.size) dimension at.position; fault = at.fault }) }
 {
-    let refused: Result<(), UnitFault> = Err(fault);
-    Ok(refused.at(position)?)
+    let position = position::<K>(dimension, at.position);
+    let fault = at.fault;
+    Located { position, fault }.into()
 }
 
 /// Reads the units of a packet's blocks to the front of a list, or refuses and leaves the list.
@@ -80,15 +65,15 @@ pub fn read_units<K: Kind>(
 ) -> Result<(), PacketFault>
     requires whole { 8 + 4 * K.size * (plan.now.dimension * blocks) ≤ length packet.now }
     requires short { length packet.now ≤ 4096 }
-    ensures answer { result ≡ answered (list_refusal (stream K.size K.code K.heard plan.now) (plan.now.dimension * blocks) (row (4 * K.size) K.heard (plan.now.dimension * blocks) (drop 8 packet.now)) (length list.old)) tt }
-    ensures units { list.new ≡ changed (list_refusal (stream K.size K.code K.heard plan.now) (plan.now.dimension * blocks) (row (4 * K.size) K.heard (plan.now.dimension * blocks) (drop 8 packet.now)) (length list.old)) list.old (over (plan.now.dimension * blocks) (row (4 * K.size) K.heard (plan.now.dimension * blocks) (drop 8 packet.now)) list.old) }
+    ensures answer { result ≡ answered (read_refusal (stream plan.now) blocks packet.now (length list.old)) tt }
+    ensures units { list.new ≡ changed (read_refusal (stream plan.now) blocks packet.now (length list.old)) list.old (filled (stream plan.now) blocks packet.now list.old) }
 {
     let dimension = plan.dimension();
-    let Err(fault) = read_row::<K>(&packet[8..], dimension as usize * blocks as usize, list) else {
-        return Ok(());
-    };
-    match fault {
-        RowFault::List => Err(PacketFault::List),
-        RowFault::Unit(at) => carry(at.fault, position::<K>(dimension, at.position)),
+    let units = dimension as usize * blocks as usize;
+    // By cases: what is known of the index is not known inside a closure for map_err.
+    match read_row::<K>(&packet[8..], units, list) {
+        Ok(()) => Ok(()),
+        Err(RowFault::List) => Err(PacketFault::List),
+        Err(RowFault::Unit(at)) => Err(unit_fault::<K>(dimension, at)),
     }
 }

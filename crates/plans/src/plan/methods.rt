@@ -4,7 +4,7 @@ ghost use Rattle.plans.specs.Rates.{interval as interval_of};
 
 use crate::fault::PlanFault;
 use crate::plan::Plan;
-use crate::rate::Rate;
+use crate::rate::{Rate, interval};
 use kinds::Kind;
 use std::marker::PhantomData;
 
@@ -21,21 +21,16 @@ fn full_packet(interval: u8, dimension: u32, size: u16) -> u64
 impl<K: Kind> Plan<K> {
     /// The plan of a sampling frequency code and a number of units a block.
     pub fn new(sfc: u8, dimension: u32) -> Result<Plan<K>, PlanFault>
-        ensures { MatchResult result (λ p. (plan_refusal K.size sfc dimension ≡ None) × (p.sfc ≡ sfc) × (p.dimension ≡ dimension) × (p.quadlets ≡ K.size) × (p.event ≡ K.event)) (λ f. plan_refusal K.size sfc dimension ≡ Some f) }
+        ensures { MatchResult result (λ p. (plan_refusal K.size sfc dimension ≡ None) × (p.sfc ≡ sfc) × (p.dimension ≡ dimension)) (λ f. plan_refusal K.size sfc dimension ≡ Some f) }
     {
-        let Some(rate) = Rate::of(sfc) else {
-            return Err(PlanFault::Rate);
-        };
-        let quadlets = K::size();
-        if dimension == 0 || full_packet(rate.interval, dimension, quadlets) > 1024 {
+        let rate = Rate::of(sfc).ok_or(PlanFault::Rate)?;
+        if dimension == 0 || full_packet(rate.interval, dimension, K::size()) > 1024 {
             return Err(PlanFault::Dimension);
         }
         Ok(Plan {
             kind: PhantomData,
             sfc,
             dimension: dimension as u16,
-            quadlets,
-            event: K::event(),
         })
     }
 
@@ -57,25 +52,21 @@ impl<K: Kind> Plan<K> {
     pub fn interval(&self) -> u8
         ensures { result ≡ interval_of self.now.sfc }
     {
-        match self.sfc {
-            0..=2 => 8,
-            3..=4 => 16,
-            _ => 32,
-        }
+        interval(self.sfc)
     }
 
     /// DBS: the quadlets of a block.
     pub fn dbs(&self) -> u8
-        ensures { result ≡ self.now.dimension * self.now.quadlets }
+        ensures { result ≡ self.now.dimension * K.size }
     {
-        (self.dimension as u32 * self.quadlets as u32) as u8
+        (self.dimension as u32 * K::size() as u32) as u8
     }
 
     /// FDF: the event type and the sampling frequency code.
     pub fn fdf(&self) -> u8
-        ensures { result ≡ 16 * self.now.event + self.now.sfc }
+        ensures { result ≡ 16 * K.EVT + self.now.sfc }
     {
-        16 * self.event + self.sfc
+        16 * K::EVT + self.sfc
     }
 
     /// The bytes of a block.

@@ -15,7 +15,7 @@ impl<K: Kind, M: Method + Drop> Trio<K, M> {
     /// calls are admitted, the law of two listeners holds after each call.
     pub fn new(plan: Plan<K>, method: M, sid: u8, delay: u32) -> Result<Trio<K, M>, TalkerFault>
         ensures made { MatchResult result (λ t. (talker_refusal sid delay ≡ None) × MadeOf plan method sid delay t) (λ f. talker_refusal sid delay ≡ Some f) }
-        ensures lawful { IfOk result (λ t. Lawful (desk K.size K.code K.heard M.takes t.talker)) }
+        ensures lawful { IfOk result (λ t. Lawful (desk M.takes t.talker)) }
     {
         let talker = Talker::new(plan, method, sid, delay)?;
         Ok(Trio {

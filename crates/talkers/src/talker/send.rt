@@ -5,10 +5,9 @@ use crate::fault::SendFault;
 use crate::score::Score;
 use crate::sent::Sent;
 use crate::talker::Talker;
-use crate::talker::parts::{bad_score, blocks_taken, syt, units_of, write_packet};
+use crate::talker::parts::write_packet;
 use clock::not_later;
 use kinds::Kind;
-use packets::Header;
 use plans::Method;
 
 impl<K: Kind, M: Method> Talker<K, M> {
@@ -20,33 +19,18 @@ impl<K: Kind, M: Method> Talker<K, M> {
         cycle: u32,
         bytes: &mut [u8],
     ) -> Result<Sent, SendFault>
-        ensures sends { Sends (desk K.size K.code K.heard M.takes self.old) (score_of score.entry.arrivals.now score.entry.units.now) (state self.old) cycle bytes.old result bytes.new (state self.new) }
+        ensures sends { Sends (desk M.takes self.old) (score_of score.entry.arrivals.now score.entry.units.now) (state self.old) cycle bytes.old result bytes.new (state self.new) }
         ensures same { SameDesk self.old self.new }
     {
-        let arrivals = score.arrivals;
-        let dimension = self.plan.dimension();
-        if bad_score(arrivals.len(), score.units.len(), dimension, self.place) {
+        if self.bad_score(score) {
             return Err(SendFault::Score);
         }
         if not_later(cycle, self.last) {
             return Err(SendFault::Cycle);
         }
-        let blocks = blocks_taken(
-            &self.method,
-            self.plan.interval(),
-            arrivals,
-            self.place,
-            cycle,
-        );
-        let header = Header {
-            sid: self.sid,
-            dbs: self.plan.dbs(),
-            dbc: (self.place % 256) as u8,
-            fdf: self.plan.fdf(),
-            syt: syt(&self.plan, arrivals, self.place, blocks, self.delay, cycle),
-        };
-        let units = units_of(score.units, dimension, self.place, blocks);
-        write_packet::<K>(header.to_bytes(), units, bytes)?;
+        let blocks = self.blocks_taken(score.arrivals, cycle);
+        let header = self.header(score.arrivals, blocks, cycle);
+        write_packet::<K>(header, self.units_of(score.units, blocks), bytes)?;
         self.place += blocks;
         self.last = Some(cycle);
         let length = 8 + self.plan.block_bytes() * blocks as usize;

@@ -10,8 +10,7 @@ use Rattle.grading.proofs.hearing.hear_records.Goals as goal
 
 pub count-requires : goal.count-requires
 count-requires g c =
-    let k = g.K.Kind in
-    let s = stream k.size k.code k.heard c.args.plan in
+    let s = stream c.args.plan in
     let it = c.args.records in
     let all = records_left it in
     let r = c.loop-position.invariant.1 in
@@ -24,12 +23,11 @@ count-requires g c =
 
 pub loop-position-preserved : goal.loop-position-preserved
 loop-position-preserved g c =
-    let k = g.K.Kind in
-    let s = stream k.size k.code k.heard c.args.plan in
+    let s = stream c.args.plan in
     let l = c.loop-position in
     let t : Standing g.row.K-Unit.Denot = record { state = state l.listener; list = l.list } in
     let h = c.hear_record.ensures in
-    let same = ap (stream k.size k.code k.heard) l.invariant.0 in
+    let same = ap stream l.invariant.0 in
     let r = seen c.in-Some.record in
     let more = ran_more s c.args.list.now (records_left c.args.records) t l.tally _ l.invariant.1 (as_placed (c.in-Some.position, c.in-Some.record)) _ c.in-Some.ensures.steps in (
       h.same ∙ l.invariant.0,
@@ -40,8 +38,7 @@ loop-position-preserved g c =
 
 pub returns-clause-report : goal.returns-clause-report
 returns-clause-report g c =
-    let k = g.K.Kind in
-    let s = stream k.size k.code k.heard c.args.plan in
+    let s = stream c.args.plan in
     let l = c.loop-position in
     c.report_of.ensures ∙ ap (λ n. reported n l.listener.heard l.listener.missed l.tally) c.interval.ensures
     ∙ ran_report s c.args.list.now (records_left c.args.records) _ l.tally _ l.invariant.1 c.in-None.ensures.steps.0 (every s)

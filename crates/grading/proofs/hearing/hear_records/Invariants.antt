@@ -7,6 +7,5 @@ use Rattle.grading.proofs.hearing.hear_records.Given as goal
 
 abbrev pub invariant-loop-position : goal.invariant-loop-position
 invariant-loop-position g l =
-    let k = g.K.Kind in
     (l.listener.plan ≡ l.plan) ×
-    Ran (stream k.size k.code k.heard l.plan) l.initial.list (records_left l.records) (record { state = state l.listener; list = l.list }) l.tally (records_left l.position-iterator)
+    Ran (stream l.plan) l.initial.list (records_left l.records) (record { state = state l.listener; list = l.list }) l.tally (records_left l.position-iterator)

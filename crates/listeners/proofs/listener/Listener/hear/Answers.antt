@@ -16,7 +16,7 @@ pub returns-in_err-heard : goal.returns-in_err-heard
 returns-in_err-heard g c =
     let k = g.K.Kind in
     let l = c.args.self.now in
-    let s = stream k.size k.code k.heard l.plan in
+    let s = stream l.plan in
     let packet = c.args.packet.now in
     let e = was_err (weigh_refusal s c.args.cycle packet (state l)) (brought s c.args.cycle packet (state l)) c.in_err-heard.field-0.0 c.in_err-heard.ensures in
     let p = err_from_is_err_and c.from_residual.result c.from_residual.ensures.1 in
@@ -26,7 +26,7 @@ pub read_units-requires : goal.read_units-requires
 read_units-requires g c =
     let k = g.K.Kind in
     let l = c.args.self.now in
-    let s = stream k.size k.code k.heard l.plan in
+    let s = stream l.plan in
     let packet = c.args.packet.now in
     let o = was_ok (weigh_refusal s c.args.cycle packet (state l)) (brought s c.args.cycle packet (state l)) c.in_ok-heard.heard c.in_ok-heard.ensures in
     let w = weighed (not_later c.args.cycle l.last) _ (refusal s packet) o.0 in
@@ -39,7 +39,7 @@ pub returns-in_err-read_units : goal.returns-in_err-read_units
 returns-in_err-read_units g c =
     let k = g.K.Kind in
     let l = c.args.self.now in
-    let s = stream k.size k.code k.heard l.plan in
+    let s = stream l.plan in
     let packet = c.args.packet.now in
     let h = c.in_ok-heard.heard in
     let o = was_ok (weigh_refusal s c.args.cycle packet (state l)) (brought s c.args.cycle packet (state l)) h c.in_ok-heard.ensures in
@@ -53,7 +53,7 @@ pub invariant_of-self : goal.invariant_of-self
 invariant_of-self g c =
     let k = g.K.Kind in
     let l = c.args.self.now in
-    let s = stream k.size k.code k.heard l.plan in
+    let s = stream l.plan in
     let packet = c.args.packet.now in
     let h = c.in_ok-heard.heard in
     let o = was_ok (weigh_refusal s c.args.cycle packet (state l)) (brought s c.args.cycle packet (state l)) h c.in_ok-heard.ensures in
@@ -69,7 +69,7 @@ pub returns : goal.returns
 returns g c =
     let k = g.K.Kind in
     let l = c.args.self.now in
-    let s = stream k.size k.code k.heard l.plan in
+    let s = stream l.plan in
     let packet = c.args.packet.now in
     let h = c.in_ok-heard.heard in
     let o = was_ok (weigh_refusal s c.args.cycle packet (state l)) (brought s c.args.cycle packet (state l)) h c.in_ok-heard.ensures in

@@ -10,5 +10,5 @@ returns g c =
     record {
       value = λ i. 4 * c.size.ensures.same i * p.dimension;
       some = omega (arith, mul-le 4 1 n p.dimension (omega arith) p.some);
-      most = mul-le n p.dimension (4 * 1022) 1022 (omega arith) (dimension_most p.sfc p.dimension p.quadlets p.sized p.fits);
+      most = mul-le n p.dimension (4 * 1022) 1022 (omega arith) (dimension_most p.sfc p.dimension g.K.Kind.size g.met.K.Kind.some p.fits);
     }

@@ -13,7 +13,7 @@ returns g c =
     let made = c.in_ok-talker.ensures in
     let a = c.new-2.ensures in
     let b = c.new-3.ensures in
-    let d = desk k.size k.code k.heard g.M.Method.takes t in
+    let d = desk g.M.Method.takes t in
     let ok : DeskLaws d = record {
       size_least = l.some;
       code_length = l.long;
@@ -23,7 +23,7 @@ returns g c =
       moves = m.moves;
       sfc_most = t.plan.rated;
       dim_least = t.plan.some;
-      event_most = t.plan.typed;
+      event_most = l.typed;
       delay_most = t.soon;
     } in
     record {
