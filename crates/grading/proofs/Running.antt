@@ -1,5 +1,5 @@
 -- A run over records, as far as it has come.
-use Rattle.std.proofs.Common.{◌≡◌, ℕ, ◌+◌, ◌≤◌, List, [], ◌∷◌, ◌++◌, length, sum_by, sym, refl, ap, ◌∙◌, zero-add, arith}
+use Rattle.std.proofs.Common.{◌≡◌, ℕ, ◌+◌, ◌≤◌, List, [], ◌∷◌, ◌++◌, length, sum_by, sym, ap, ◌∙◌, zero-add, arith}
 use Rattle.std.proofs.lemmas.List.{length-append, append_assoc, append-nil}
 use Rattle.std.proofs.lemmas.List.Sums.{fold_push}
 use Rattle.faults.specs.declared.records.RecordPosition.{RecordPosition}
@@ -7,7 +7,6 @@ use Rattle.plans.specs.Streams.{Stream}
 use Rattle.records.specs.Reading.{Placed}
 use Rattle.reels.specs.Records.{Record}
 use Rattle.grading.specs.declared.tally.Tally.{Tally}
-use Rattle.grading.specs.Grading.{left}
 use Rattle.grading.specs.Hearings.{Standing, begun, of_record, answer, after, answers, after_all}
 use Rattle.grading.specs.Tallies.{blocks_in, gap_in, tally_of, counted, reported, report_of}
 use Rattle.grading.proofs.Hearings.{answers_push, length_answers, heard_sum, missed_sum}
@@ -24,9 +23,6 @@ module _ {U : Type 0} (s : Stream U) (list : List U) (all : Placed) where
     pub parts : all ≡ done ++ rest
     pub standing : t ≡ after_all s (begun list) done
     pub counts : tally ≡ so_far done
-
-  pub ran_none : Ran (begun list) (tally_of []) all
-  ran_none = record { done = []; parts = refl; standing = refl; counts = refl }
 
   pub ran_as : {t u : Standing U} {x y : Tally} {rest : Placed} → t ≡ u → x ≡ y → Ran u y rest → Ran t x rest
   ran_as a b r = record { done = r.done; parts = r.parts; standing = a ∙ r.standing; counts = b ∙ r.counts }
@@ -61,6 +57,3 @@ module _ {U : Type 0} (s : Stream U) (list : List U) (all : Placed) where
 
       pub ran_report : (interval : ℕ) → reported interval t.state.heard t.state.missed tally ≡ report_of interval (answers s (begun list) all)
       ran_report interval = λ i. reported interval (heard_all i) (missed_all i) ((r.counts ∙ ap so_far heard) i)
-
-      pub ran_left : t.list ≡ left s list all
-      ran_left = ap (λ u. u.list) r.standing ∙ ap (left s list) heard

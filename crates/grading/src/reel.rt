@@ -44,6 +44,7 @@ fn hear_by(
 /// going to the front of the list of their kind. A refused reel leaves both lists as they were.
 pub fn grade_reel(
     reel: &[u8],
+    // The lists are the caller's and may have any length; a reel uses the one of its kind.
     quadlets: &mut [Am824Unit],
     packs: &mut [PackUnit],
 ) -> Result<Report, ReelFault>

@@ -4,7 +4,10 @@ use crate::checked::Checked;
 use crate::fault::{ReelCause, ReelFault};
 use crate::sequence::Records;
 use crate::walk::{Walk, walk_over};
+use am824::Am824;
 use faults::RecordPosition;
+use kinds::Kind;
+use pack::Pack;
 use plans::{Plan, PlanFault};
 use reels::{ReelPlan, Trailer};
 
@@ -80,8 +83,8 @@ impl<'a> Reel<'a> {
         } = self.trailer;
         let refused = |fault| self.plan_fault(fault);
         match event {
-            0 => Ok(ReelPlan::Am824(Plan::new(sfc, dimension as u32).map_err(refused)?)),
-            1 => Ok(ReelPlan::Pack(Plan::new(sfc, dimension as u32).map_err(refused)?)),
+            Am824::EVT => Ok(ReelPlan::Am824(Plan::new(sfc, dimension as u32).map_err(refused)?)),
+            Pack::EVT => Ok(ReelPlan::Pack(Plan::new(sfc, dimension as u32).map_err(refused)?)),
             _ => Err(self.trailer_fault(ReelCause::Event, 8)),
         }
     }
@@ -100,6 +103,7 @@ impl<'a> Reel<'a> {
     }
 
     /// A walk over the records.
+    #[tactic(auto, using(crate::proofs::Reading::placed_records))]
     fn walk(&self) -> Walk
         ensures { result ≡ over (records self.now.bytes.now) }
     {

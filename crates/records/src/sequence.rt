@@ -22,6 +22,7 @@ impl<'a> Iterator for Records<'a> {
 
     ghost remaining = { item_count records_left };
 
+    #[tactic(auto, using(crate::proofs::Reading::placed_none))]
     fn next(&mut self) -> Option<(RecordPosition, Record<'a>)> {
         let position = self.position;
         let record = first_record(self.rest)?;

@@ -7,6 +7,7 @@ ghost use Rattle.reels.specs.Trailers.{trailer_bytes, read_trailer};
 pub struct Trailer {
     pub last: Option<u32>,
     pub count: u32,
+    // These stay numbers, since a trailer may name a stream that is none.
     pub event: u8,
     pub sfc: u8,
     pub dimension: u16,
