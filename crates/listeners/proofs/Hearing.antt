@@ -1,17 +1,19 @@
 -- What is known of a packet that is weighed, and how a hearing follows from its steps.
-use Rattle.std.proofs.Common.{◌≡◌, ℕ, ◌+◌, ◌*◌, ◌≤◌, Bool, true, false, cond, List, length, drop, Some, None, Err, Option, sym, refl, ap, ◌∙◌, subst, mul_assoc, mul-zero, arith}
+use Rattle.std.proofs.Common.{◌≡◌, ℕ, ◌+◌, ◌*◌, ◌≤◌, false, List, length, Some, None, Ok, Err, Option, sym, ap, ◌∙◌, subst, mul_assoc, mul-zero, arith}
+use Rattle.std.specs.Option.{option_or}
 use Rattle.std.proofs.lemmas.Bool.{cond_both, leb-false}
 use Rattle.clock.specs.Cycles.{not_later}
 use Rattle.faults.specs.declared.packets.PacketFault.{PacketFault}
+use Rattle.faults.specs.declared.packets.PacketFault.TheVariants.{Cycle}
+use Rattle.faults.proofs.Outcomes.{none_refused}
 use Rattle.faults.specs.Outcomes.{answered, changed}
 use Rattle.packets.specs.Sorting.{idle, refusal}
-use Rattle.packets.proofs.Sound.{sorted_long, sorted_few, sorted_whole}
+use Rattle.packets.proofs.Sound.{sorted_long, sorted_short, sorted_few, sorted_whole}
 use Rattle.plans.specs.Streams.{Stream, block_bytes}
 use Rattle.plans.proofs.Intervals.{interval_most}
-use Rattle.units.specs.Rows.{row, over}
 use Rattle.listeners.specs.declared.heard.Heard.{Heard}
 use Rattle.listeners.specs.Cycles.{cycles_to}
-use Rattle.listeners.specs.Hearing.{State, count, units, brought, next_state, weigh_refusal, list_refusal, hear_refusal, or_else, Hears}
+use Rattle.listeners.specs.Hearing.{State, count, brought, next_state, read_refusal, filled, weigh_refusal, hear_refusal, Hears, Reads, Weighed}
 
 -- a later cycle is beyond all cycles so far
 pub cycles_before : (c : ℕ) (last : Option ℕ) → not_later c last ≡ false → cycles_to last ≤ c
@@ -28,33 +30,49 @@ module _ {U : Type 0} (s : Stream U) (packet : List ℕ) (e : refusal s packet �
       cond_both (idle packet) _ _ (λ n. 8 + block_bytes s * n ≤ length packet) (λ _. omega (arith, mul-zero (block_bytes s), sorted_long s packet e)) (λ _. sorted_whole s packet e) in
       omega (arith, mul_assoc (4 * s.size) s.dimension (count s packet))
 
--- both tests of a weighing passed
-pub weighed : (b : Bool) (x : PacketFault) (o : Option PacketFault) → cond b (Some x) o ≡ None → (b ≡ false) × (o ≡ None)
-weighed true x o e = let z : ◌≡◌ {A = ℕ} 0 1 = cc in absurd (omega arith)
-weighed false x o e = (refl, e)
+-- what is known of a packet that is weighed
+module _ {U : Type 0} (s : Stream U) (c : ℕ) (packet : List ℕ) (t : State) (h : Heard) (w : Weighed s c packet t h) where
+  passed : (not_later c t.last ≡ false) × (refusal s packet ≡ None)
+  passed = none_refused (not_later c t.last) Cycle (refusal s packet) w.accepted
+
+  pub before : cycles_to t.last ≤ c
+  before = cycles_before c t.last passed.0
+
+  pub short : length packet ≤ 4096
+  short = sorted_short s packet passed.1
+
+  pub few : h.blocks ≤ 32
+  few = subst (λ (x : Heard). x.blocks ≤ 32) (sym w.as_brought) (count_few s packet passed.1)
+
+  pub whole : 8 + 4 * s.size * (s.dimension * h.blocks) ≤ length packet
+  whole = subst (λ (x : Heard). 8 + 4 * s.size * (s.dimension * x.blocks) ≤ length packet) (sym w.as_brought) (count_whole s packet passed.1)
 
 module _ {U : Type 0} (s : Stream U) (c : ℕ) (packet : List ℕ) (t : State) (list : List U) where
-  -- a hearing with this refusal, or none
-  pub by_refusal : (o : Option PacketFault) → hear_refusal s c packet t (length list) ≡ o
-      → Hears s c packet t list (answered o (brought s c packet t)) (changed o list (over (s.dimension * count s packet) (units s packet) list)) (changed o t (next_state s c packet t))
-  by_refusal o r = record {
-    answer = λ i. answered (sym r i) (brought s c packet t);
-    left = λ i. changed (sym r i) list (over (s.dimension * count s packet) (units s packet) list);
-    state = λ i. changed (sym r i) t (next_state s c packet t);
+  refused : (f : PacketFault) → hear_refusal s c packet t (length list) ≡ Some f → Hears s c packet t list (Err f) list t
+  refused f e = record {
+    answer = λ i. answered (sym e i) (brought s c packet t);
+    left = λ i. changed (sym e i) list (filled s (count s packet) packet list);
+    state = λ i. changed (sym e i) t (next_state s c packet t);
   }
 
   -- a packet that is not weighed is not heard
   pub not_weighed : (f : PacketFault) → weigh_refusal s c packet t ≡ Some f → Hears s c packet t list (Err f) list t
-  not_weighed f e = by_refusal (Some f) (ap (λ o. or_else o (list_refusal s (s.dimension * count s packet) (units s packet) (length list))) e)
+  not_weighed f e = refused f (ap (λ o. option_or o (read_refusal s (count s packet) packet (length list))) e)
 
-  -- a packet that is weighed is heard as its units are read
-  module _ (h : Heard) (list' : List U) (w : weigh_refusal s c packet t ≡ None) (b : h ≡ brought s c packet t) where
-    abbrev pub Left : ℕ → Option PacketFault → Type 0
-    Left n o = (list_refusal s (s.dimension * n) (row (4 * s.size) s.heard (s.dimension * n) (drop 8 packet)) (length list) ≡ o)
-        × (list' ≡ changed o list (over (s.dimension * n) (row (4 * s.size) s.heard (s.dimension * n) (drop 8 packet)) list))
+  -- one that is weighed is heard as its units are read
+  module _ (h : Heard) (w : Weighed s c packet t h) where
+    more : hear_refusal s c packet t (length list) ≡ read_refusal s h.blocks packet (length list)
+    more = (λ i. option_or (w.accepted i) (read_refusal s (count s packet) packet (length list))) ∙ ap (λ (x : Heard). read_refusal s x.blocks packet (length list)) (sym w.as_brought)
 
-    pub as_read : (o : Option PacketFault) → Left h.blocks o → Hears s c packet t list (answered o (brought s c packet t)) list' (changed o t (next_state s c packet t))
-    as_read o l =
-        let k = subst (λ x. Left x.blocks o) b l in
-        let whole = by_refusal o (ap (λ r. or_else r (list_refusal s (s.dimension * count s packet) (units s packet) (length list))) w ∙ k.0) in
-        subst (λ z. Hears s c packet t list (answered o (brought s c packet t)) z (changed o t (next_state s c packet t))) (sym k.1) whole
+    pub not_read : (f : PacketFault) → read_refusal s h.blocks packet (length list) ≡ Some f → Hears s c packet t list (Err f) list t
+    not_read f e = refused f (more ∙ e)
+
+    pub read : (list' : List U) → Reads s h.blocks packet list list'
+        → Hears s c packet t list (Ok h) list' (record { next = h.first + h.blocks; heard = t.heard + h.blocks; missed = t.missed + h.gap; last = Some c })
+    read list' r =
+        let none = more ∙ r.accepted in
+        record {
+          answer = (λ i. Ok (w.as_brought i)) ∙ (λ i. answered (sym none i) (brought s c packet t));
+          left = r.left ∙ ap (λ (x : Heard). filled s x.blocks packet list) w.as_brought ∙ (λ i. changed (sym none i) list (filled s (count s packet) packet list));
+          state = ap (λ (x : Heard). record { next = x.first + x.blocks; heard = t.heard + x.blocks; missed = t.missed + x.gap; last = Some c }) w.as_brought ∙ (λ i. changed (sym none i) t (next_state s c packet t));
+        }

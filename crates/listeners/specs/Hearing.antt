@@ -1,6 +1,6 @@
 -- What a hearing answers and leaves, for every cycle, packet and list.
 use Rattle.std.specs.Prelude.{◌≡◌, ℕ, ◌+◌, ◌*◌, ◌/◌, ◌%◌, cond, List, length, drop, Some, None, Ok, Err, Option, Result, nat_lt}
-use Rattle.std.specs.Option.{option_map}
+use Rattle.std.specs.Option.{option_map, option_or}
 use Rattle.clock.specs.Counts.{gap_to}
 use Rattle.clock.specs.Cycles.{not_later}
 use Rattle.clock.specs.Ticks.{time_of}
@@ -46,10 +46,10 @@ read_refusal s n packet room = list_refusal s (s.dimension * n) (units_of s n pa
 abbrev pub filled : {U : Type 0} → Stream U → ℕ → List ℕ → List U → List U
 filled s n packet list = over (s.dimension * n) (units_of s n packet) list
 
--- a refusal, or the next one
-abbrev pub or_else : {E : Type 0} → Option E → Option E → Option E
-or_else (Some f) o = Some f
-or_else None o = o
+-- they are read, to the front of the list
+pub record Reads {U : Type 0} (s : Stream U) (n : ℕ) (packet : List ℕ) (list list' : List U) : Type 0 where
+  pub accepted : read_refusal s n packet (length list) ≡ None
+  pub left : list' ≡ filled s n packet list
 
 -- the time of the stamped block, if there is a stamp
 abbrev pub time : ℕ → List ℕ → Option ℕ
@@ -79,7 +79,12 @@ module _ {U : Type 0} (s : Stream U) (c : ℕ) (packet : List ℕ) (t : State) w
 
   -- why it is not accepted for a list of so many units: the smallest number wins
   abbrev pub hear_refusal : ℕ → Option PacketFault
-  hear_refusal room = or_else weigh_refusal (read_refusal s (count s packet) packet room)
+  hear_refusal room = option_or weigh_refusal (read_refusal s (count s packet) packet room)
+
+  -- a packet that is weighed, and what it brings
+  pub record Weighed (h : Heard) : Type 0 where
+    pub accepted : weigh_refusal ≡ None
+    pub as_brought : h ≡ brought
 
   -- what a hearing answers, the list that it leaves, and the state that it leaves
   pub record Hears (list : List U) (r : Result Heard PacketFault) (list' : List U) (t' : State) : Type 0 where

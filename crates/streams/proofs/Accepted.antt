@@ -1,5 +1,5 @@
 -- What an accepted send and an accepted hearing are, part by part.
-use Rattle.std.proofs.Common.{◌≡◌, ℕ, ◌+◌, ◌*◌, ◌%◌, ◌<◌, ◌≤◌, Bool, true, false, cond, ltb, List, ◌++◌, length, take, drop, Some, None, Ok, Err, Option, Result, sym, refl, ap, ◌∙◌, arith}
+use Rattle.std.proofs.Common.{◌≡◌, ℕ, ◌+◌, ◌*◌, ◌%◌, ◌<◌, ◌≤◌, false, ltb, List, ◌++◌, length, take, drop, Some, None, Ok, Err, Option, Result, sym, refl, ap, ◌∙◌, arith}
 use Rattle.std.specs.List.{flat_map}
 use Rattle.std.proofs.lemmas.Bool.{leb-false}
 use Rattle.clock.specs.Counts.{gap_to}
@@ -9,7 +9,7 @@ use Rattle.faults.specs.declared.located.Located.{Located}
 use Rattle.faults.specs.declared.packets.PacketFault.{PacketFault}
 use Rattle.faults.specs.declared.units.UnitFault.{UnitFault}
 use Rattle.faults.specs.Outcomes.{changed}
-use Rattle.faults.proofs.Outcomes.{was_ok, was_err}
+use Rattle.faults.proofs.Outcomes.{was_ok, was_err, none_refused, neither_refused}
 use Rattle.packets.specs.Headers.{header_bytes}
 use Rattle.packets.specs.Sorting.{dbc_of, refusal}
 use Rattle.plans.specs.Streams.{Stream, every, dbs, fdf, block_bytes}
@@ -20,7 +20,7 @@ use Rattle.talkers.specs.Sending.{Desk, Score, State as Talker, due, syt_for, ba
 use Rattle.talkers.proofs.Sending.{good}
 use Rattle.units.specs.Rows.{over}
 use Rattle.listeners.specs.declared.heard.Heard.{Heard}
-use Rattle.listeners.specs.Hearing.{State as Listener, count, units, time, next_state, unit_refusal, weigh_refusal, hear_refusal, or_else, Hears}
+use Rattle.listeners.specs.Hearing.{State as Listener, count, units, time, next_state, unit_refusal, weigh_refusal, hear_refusal, Hears}
 
 -- what a kind, a method and a plan keep, so far as runs need it
 pub record DeskLaws {U : Type 0} (d : Desk U) : Type 0 where
@@ -42,15 +42,6 @@ Later c (Some l) = l < c
 later : (c : ℕ) (o : Option ℕ) → not_later c o ≡ false → Later c o
 later c None e = tt
 later c (Some l) e = leb-false c l e
-
--- a chain of refusals that gives none
-cond_none : {X : Type 0} (b : Bool) (x : X) (o : Option X) → cond b (Some x) o ≡ None → (b ≡ false) × (o ≡ None)
-cond_none true x o e = let z : ◌≡◌ {A = ℕ} 0 1 = cc in absurd (omega arith)
-cond_none false x o e = (refl, e)
-
-else_none : {X : Type 0} (a b : Option X) → or_else a b ≡ None → (a ≡ None) × (b ≡ None)
-else_none None b e = (refl, e)
-else_none (Some x) b e = let z : ◌≡◌ {A = ℕ} 0 1 = cc in absurd (omega arith)
 
 module _ {U : Type 0} (d : Desk U) (s : Score U) where
   -- the blocks taken at a place in a cycle, their units, and their packet
@@ -80,8 +71,8 @@ module _ {U : Type 0} (d : Desk U) (s : Score U) where
       → Sends d s t c bytes (Ok (record { blocks = n; length = len })) bytes' t' → SendAccepted t c bytes n len bytes' t'
   sent_accepted t c bytes n len bytes' t' h =
       let o = was_ok (send_refusal d s t c (length bytes)) _ _ h.answer in
-      let a = cond_none (bad_score d s t) ScoreFault _ o.0 in
-      let b = cond_none (not_later c t.last) CycleFault _ a.1 in
+      let a = none_refused (bad_score d s t) ScoreFault _ o.0 in
+      let b = none_refused (not_later c t.last) CycleFault _ a.1 in
       let g = good d s t c a.0 in
       let count : n ≡ taken t.place c = ap (λ (x : Sent). x.blocks) o.1 in
       let long : len ≡ packet_length d s t c = ap (λ (x : Sent). x.length) o.1 in
@@ -124,9 +115,9 @@ module _ {U : Type 0} (s : Stream U) (c : ℕ) (packet : List ℕ) (t : Listener
   pub heard_accepted : (a : Heard) (list' : List U) (t' : Listener) → Hears s c packet t list (Ok a) list' t' → HearAccepted a list' t'
   heard_accepted a list' t' h =
       let o = was_ok (hear_refusal s c packet t (length list)) _ _ h.answer in
-      let e = else_none (weigh_refusal s c packet t) _ o.0 in
-      let w = cond_none (not_later c t.last) _ (refusal s packet) e.0 in
-      let l = cond_none (ltb (length list) (s.dimension * count s packet)) _ (unit_refusal s (units s packet)) e.1 in
+      let e = neither_refused (weigh_refusal s c packet t) _ o.0 in
+      let w = none_refused (not_later c t.last) _ (refusal s packet) e.0 in
+      let l = none_refused (ltb (length list) (s.dimension * count s packet)) _ (unit_refusal s (units s packet)) e.1 in
       let r = was_read (units s packet) l.1 in
       let n = s.dimension * count s packet in
       let state : t' ≡ next_state s c packet t = h.state ∙ ap (λ x. changed x t (next_state s c packet t)) o.0 in

@@ -1,7 +1,6 @@
-ghost use Rattle.std.specs.Prelude.{◌≡◌};
-ghost use Rattle.faults.specs.Outcomes.{answered};
+ghost use Rattle.std.specs.Prelude.{◌≡◌, Some, MatchResult};
 ghost use Rattle.plans.specs.Streams.{stream};
-ghost use Rattle.listeners.specs.Hearing.{brought, weigh_refusal, Hears};
+ghost use Rattle.listeners.specs.Hearing.{weigh_refusal, Hears, Weighed};
 ghost use Rattle.listeners.specs.Views.{state};
 
 use crate::heard::Heard;
@@ -15,7 +14,7 @@ use packets::Packet;
 impl<K: Kind> Listener<K> {
     /// What a packet brings, its units aside; nothing is changed.
     fn weigh(&self, cycle: u32, packet: &[u8]) -> Result<Heard, PacketFault>
-        ensures { result ≡ answered (weigh_refusal (stream self.now.plan) cycle packet.now (state self.now)) (brought (stream self.now.plan) cycle packet.now (state self.now)) }
+        ensures { MatchResult result (λ h. Weighed (stream self.now.plan) cycle packet.now (state self.now) h) (λ f. weigh_refusal (stream self.now.plan) cycle packet.now (state self.now) ≡ Some f) }
     {
         if not_later(cycle, self.last) {
             return Err(PacketFault::Cycle);

@@ -1,8 +1,7 @@
-ghost use Rattle.std.specs.Prelude.{◌≡◌, ◌+◌, ◌*◌, ◌≤◌, length};
-ghost use Rattle.faults.specs.Outcomes.{answered, changed};
+ghost use Rattle.std.specs.Prelude.{◌≡◌, ◌+◌, ◌*◌, ◌≤◌, length, Some, MatchResult};
 ghost use Rattle.faults.specs.Packets.{carried};
 ghost use Rattle.plans.specs.Streams.{stream};
-ghost use Rattle.listeners.specs.Hearing.{count, time, position_of, read_refusal, filled};
+ghost use Rattle.listeners.specs.Hearing.{count, time, position_of, read_refusal, Reads};
 
 use clock::told;
 use faults::{Located, PacketFault, UnitFault, UnitPosition};
@@ -65,8 +64,7 @@ pub fn read_units<K: Kind>(
 ) -> Result<(), PacketFault>
     requires whole { 8 + 4 * K.size * (plan.now.dimension * blocks) ≤ length packet.now }
     requires short { length packet.now ≤ 4096 }
-    ensures answer { result ≡ answered (read_refusal (stream plan.now) blocks packet.now (length list.old)) tt }
-    ensures units { list.new ≡ changed (read_refusal (stream plan.now) blocks packet.now (length list.old)) list.old (filled (stream plan.now) blocks packet.now list.old) }
+    ensures { MatchResult result (λ _. Reads (stream plan.now) blocks packet.now list.old list.new) (λ f. (read_refusal (stream plan.now) blocks packet.now (length list.old) ≡ Some f) × (list.new ≡ list.old)) }
 {
     let dimension = plan.dimension();
     let units = dimension as usize * blocks as usize;
