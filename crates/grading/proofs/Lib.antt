@@ -1,4 +1,3 @@
-pub mod Grading
 pub mod Hearings
 pub mod Running
 pub mod Tallies

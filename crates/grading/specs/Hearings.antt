@@ -1,5 +1,5 @@
 -- Records heard in order by one listener, into one list.
-use Rattle.std.specs.Prelude.{◌+◌, ◌*◌, List, [], ◌∷◌, length, Ok, Err, fold, Option, Result}
+use Rattle.std.specs.Prelude.{◌*◌, List, [], ◌∷◌, length, Ok, Err, fold, Option, Result}
 use Rattle.faults.specs.declared.packets.PacketFault.{PacketFault}
 use Rattle.faults.specs.declared.records.RecordFault.{RecordFault}
 use Rattle.faults.specs.declared.records.RecordPosition.{RecordPosition}
@@ -8,7 +8,8 @@ use Rattle.listeners.specs.declared.heard.Heard.{Heard}
 use Rattle.listeners.specs.Hearing.{State, count, units, brought, next_state, hear_refusal}
 use Rattle.listeners.specs.Views.{fresh}
 use Rattle.plans.specs.Streams.{Stream}
-use Rattle.reels.specs.Records.{Record, size_of}
+use Rattle.records.specs.Reading.{Placed}
+use Rattle.reels.specs.Records.{Record}
 use Rattle.units.specs.Rows.{over}
 
 -- the listener's numbers and the caller's list, between two hearings
@@ -19,13 +20,6 @@ pub record Standing (U : Type 0) : Type 0 where
 -- a new listener
 abbrev pub begun : {U : Type 0} → List U → Standing U
 begun list = record { state = fresh; list = list }
-
--- where the first record stands, and where the next one does
-abbrev pub origin : RecordPosition
-origin = record { number = 0; place = 0 }
-
-abbrev pub behind : RecordPosition → Record → RecordPosition
-behind p r = record { number = p.number + 1; place = p.place + size_of r }
 
 -- an answer, its fault told with the record's position
 abbrev pub of_record : RecordPosition → Result Heard PacketFault → Result Heard RecordFault
@@ -46,11 +40,11 @@ module _ {U : Type 0} (s : Stream U) where
     list = changed (refusal t r) t.list (over (s.dimension * count s r.packet) (units s r.packet) t.list);
   }
 
-  -- the answers to records from a position on, each heard where the one before left off
-  abbrev pub answers : Standing U → RecordPosition → List Record → List (Result Heard RecordFault)
-  answers t p [] = []
-  answers t p (r ∷ rs) = of_record p (answer t r) ∷ answers (after t r) (behind p r) rs
+  -- the answers to records at their positions, each heard where the one before left off
+  abbrev pub answers : Standing U → Placed → List (Result Heard RecordFault)
+  answers t [] = []
+  answers t (x ∷ xs) = of_record x.0 (answer t x.1) ∷ answers (after t x.1) xs
 
   -- what their hearings leave
-  abbrev pub after_all : Standing U → List Record → Standing U
-  after_all t rs = fold after t rs
+  abbrev pub after_all : Standing U → Placed → Standing U
+  after_all t xs = fold (λ t x. after t x.1) t xs

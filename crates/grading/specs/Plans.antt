@@ -5,18 +5,18 @@ use Rattle.plans.specs.Streams.{stream}
 use Rattle.quadlets.specs.declared.unit.Am824Unit.{Am824Unit}
 use Rattle.reels.specs.declared.plan.ReelPlan.{ReelPlan}
 use Rattle.reels.specs.declared.plan.ReelPlan.TheVariants.{Am824, Pack}
-use Rattle.reels.specs.Records.{Record}
+use Rattle.records.specs.Reading.{Placed}
 use Rattle.reports.specs.declared.report.Report.{Report}
 use Rattle.grading.specs.Grading.{report, left}
 
-abbrev pub report_by : ReelPlan → List Record → List Am824Unit → List PackUnit → Report
-report_by (Am824 p) rs quadlets packs = report (stream p) quadlets rs
-report_by (Pack p) rs quadlets packs = report (stream p) packs rs
+abbrev pub report_by : ReelPlan → Placed → List Am824Unit → List PackUnit → Report
+report_by (Am824 p) xs quadlets packs = report (stream p) quadlets xs
+report_by (Pack p) xs quadlets packs = report (stream p) packs xs
 
-abbrev pub quadlets_by : ReelPlan → List Record → List Am824Unit → List Am824Unit
-quadlets_by (Am824 p) rs quadlets = left (stream p) quadlets rs
-quadlets_by (Pack p) rs quadlets = quadlets
+abbrev pub quadlets_by : ReelPlan → Placed → List Am824Unit → List Am824Unit
+quadlets_by (Am824 p) xs quadlets = left (stream p) quadlets xs
+quadlets_by (Pack p) xs quadlets = quadlets
 
-abbrev pub packs_by : ReelPlan → List Record → List PackUnit → List PackUnit
-packs_by (Am824 p) rs packs = packs
-packs_by (Pack p) rs packs = left (stream p) packs rs
+abbrev pub packs_by : ReelPlan → Placed → List PackUnit → List PackUnit
+packs_by (Am824 p) xs packs = packs
+packs_by (Pack p) xs packs = left (stream p) packs xs

@@ -1,30 +1,42 @@
-ghost use Rattle.std.specs.Prelude.{◌≡◌, ◌≤◌, length};
-ghost use Rattle.records.specs.Reading.{records};
-ghost use Rattle.grading.specs.Grading.{Grades};
+ghost use Rattle.std.specs.Prelude.{◌≡◌, Some, None, MatchResult};
+ghost use Rattle.records.specs.Checking.{check_refusal, trailer, Names};
+ghost use Rattle.records.specs.Placing.{records_left};
+ghost use Rattle.grading.specs.Grading.{reel_placed, Grades};
 ghost use Rattle.grading.specs.Plans.{report_by, quadlets_by, packs_by};
 
 use crate::hearing::hear_records;
 use pack::PackUnit;
 use quadlets::Am824Unit;
-use records::{ReelFault, check, planned};
+use records::{Records, Reel, ReelFault};
 use reels::ReelPlan;
 use reports::Report;
 
-/// Hears the records of some bytes by a plan, into the list of its kind.
+/// The plan and the records of a reel that is accepted.
+fn accepted(reel: &[u8]) -> Result<(ReelPlan, Records<'_>), ReelFault>
+    ensures { MatchResult result
+        (λ x. (check_refusal reel.now ≡ None) × Names (trailer reel.now) x.0 × (records_left x.1 ≡ reel_placed reel.now))
+        (λ f. check_refusal reel.now ≡ Some f) }
+{
+    let reel = Reel::new_checked(reel)?;
+    let plan = reel.plan()?;
+    reel.check()?;
+    Ok((plan, reel.records()))
+}
+
+/// Hears records by a plan, into the list of its kind.
 fn hear_by(
     plan: ReelPlan,
-    bytes: &[u8],
+    records: Records<'_>,
     quadlets: &mut [Am824Unit],
     packs: &mut [PackUnit],
 ) -> Report
-    requires { length bytes.now ≤ 65536 }
-    ensures report { result ≡ report_by plan (records bytes.now) quadlets.old packs.old }
-    ensures quadlets { quadlets.new ≡ quadlets_by plan (records bytes.now) quadlets.old }
-    ensures packs { packs.new ≡ packs_by plan (records bytes.now) packs.old }
+    ensures report { result ≡ report_by plan (records_left records.entry) quadlets.old packs.old }
+    ensures quadlets { quadlets.new ≡ quadlets_by plan (records_left records.entry) quadlets.old }
+    ensures packs { packs.new ≡ packs_by plan (records_left records.entry) packs.old }
 {
     match plan {
-        ReelPlan::Am824(plan) => hear_records(plan, bytes, quadlets),
-        ReelPlan::Pack(plan) => hear_records(plan, bytes, packs),
+        ReelPlan::Am824(plan) => hear_records(plan, records, quadlets),
+        ReelPlan::Pack(plan) => hear_records(plan, records, packs),
     }
 }
 
@@ -32,12 +44,12 @@ fn hear_by(
 /// going to the front of the list of their kind. A refused reel leaves both lists as they were.
 pub fn grade_reel(
     reel: &[u8],
+    // The lists are the caller's and may have any length; a reel uses the one of its kind.
     quadlets: &mut [Am824Unit],
     packs: &mut [PackUnit],
 ) -> Result<Report, ReelFault>
     ensures { Grades reel.now quadlets.old packs.old result quadlets.new packs.new }
 {
-    let plan = planned(reel)?;
-    check(reel)?;
-    Ok(hear_by(plan, &reel[..reel.len() - 12], quadlets, packs))
+    let (plan, records) = accepted(reel)?;
+    Ok(hear_by(plan, records, quadlets, packs))
 }

@@ -3,7 +3,7 @@ use faults::RecordFault;
 mod counting;
 
 /// What has been counted of the answers so far.
-#[derive(Clone, Copy)]
+#[derive(Clone, Copy, Default)]
 pub struct Tally {
     pub gaps: u32,
     pub widest: u8,

@@ -1,10 +1,10 @@
 -- What was captured is what the check finds.
-use Rattle.std.proofs.Common.{◌≡◌, ℕ, ◌+◌, ◌*◌, ◌/◌, ◌%◌, ◌<◌, ◌≤◌, true, ltb, List, [], ◌∷◌, ◌++◌, length, take, drop, None, sym, refl, ap, ◌∙◌, subst, arith}
-use Rattle.std.proofs.lemmas.List.{length-append, get_or-append-add, take_at, drop_at}
+use Rattle.std.proofs.Common.{◌≡◌, ℕ, ◌+◌, ◌*◌, ◌/◌, ◌%◌, ◌<◌, ◌≤◌, true, eqb, ltb, List, [], ◌∷◌, ◌++◌, length, take, drop, Some, None, Option, sym, refl, ap, ◌∙◌, subst, arith}
+use Rattle.std.proofs.lemmas.List.{length-append, take_at, drop_at}
 use Rattle.std.proofs.lemmas.List.Sums.{sum_by-take-le}
-use Rattle.std.proofs.lemmas.Bool.{cond-false, le-ltb, le-leb, eq-eqb, or_from, or_parts, ltb-false, not_from_true}
+use Rattle.std.proofs.lemmas.Bool.{cond-false, le-ltb, le-leb, eq-eqb, ne_eqb, or_from, or_parts, ltb-false, not_from_true}
 use Rattle.std.specs.List.{flat_map, AllByRecursion}
-use Rattle.std.specs.Option.{option_or}
+use Rattle.std.specs.Option.{option_eq, option_or}
 use Rattle.faults.specs.Outcomes.{answered}
 use Rattle.faults.proofs.Outcomes.{none_refused}
 use Rattle.plans.specs.declared.fault.PlanFault.TheVariants.{Rate, Dimension}
@@ -12,15 +12,16 @@ use Rattle.plans.specs.Planning.{bad_dimension, plan_refusal}
 use Rattle.plans.proofs.Intervals.{dimension_most}
 use Rattle.reels.specs.declared.plan.ReelPlan.{ReelPlan}
 use Rattle.reels.specs.declared.plan.ReelPlan.TheVariants.{Am824, Pack}
+use Rattle.reels.specs.Bytes.{two}
 use Rattle.reels.specs.Captures.{Planned}
 use Rattle.reels.specs.Plans.{event_of, sfc_of, dimension_of}
 use Rattle.reels.specs.Records.{Record, Fits, record_bytes, size_of, extent, last_place, rising}
-use Rattle.reels.specs.Trailers.{trailer_bytes, trailer_of, reel_bytes}
+use Rattle.reels.specs.Trailers.{place_told, place_read, trailer_bytes, read_trailer, trailer_of, reel_bytes}
 use Rattle.reels.proofs.Captures.{holds, closed_reel, has_room, length_trailer}
 use Rattle.reels.proofs.Records.{length_record, length_records, six_each}
 use Rattle.records.specs.Checking.{size_of_event, bad_length, plan_fault, trailer_place, trailer, reel_records, trailer_refusal, records_refusal, checked}
 use Rattle.records.specs.Laws.{Found, CapturedIsFound}
-use Rattle.records.specs.Reading.{byte, two, four, front_size, whole, front, up_to, records}
+use Rattle.records.specs.Reading.{front_size, whole, front, up_to, records}
 use Rattle.records.proofs.Reading.{records_more}
 
 -- numbers of two and four bytes, put together again
@@ -51,20 +52,21 @@ records_back (r ∷ rs) (f, fs) =
     let after : drop (front_size bs) bs ≡ rest = drop_at (record_bytes r) rest (front_size bs) (sym size) in
     records_more bs there ∙ (λ i. first i ∷ records (after i)) ∙ ap (λ xs. r ∷ xs) (records_back rs fs)
 
--- bytes behind others
-module _ (xs ys : List ℕ) (n : ℕ) (l : length xs ≡ n) where
-  pub byte_behind : (i k : ℕ) → i ≡ n + k → byte (xs ++ ys) i ≡ byte ys k
-  byte_behind i k e = ap (byte (xs ++ ys)) (e ∙ ap (λ m. m + k) (sym l)) ∙ get_or-append-add xs ys k 0
-
-  pub two_behind : (i k : ℕ) → i ≡ n + k → two (xs ++ ys) i ≡ two ys k
-  two_behind i k e = λ j. 256 * byte_behind i k e j + byte_behind (i + 1) (k + 1) (omega arith) j
-
-  pub four_behind : (i k : ℕ) → i ≡ n + k → four (xs ++ ys) i ≡ four ys k
-  four_behind i k e = λ j. 65536 * two_behind i k e j + two_behind (i + 2) (k + 2) (omega arith) j
-
-last_small : (rs : List Record) → extent rs < 4294967296 → last_place rs < 4294967296
+-- the place of the last record, told and read
+last_small : (rs : List Record) → extent rs < 4294967295 → place_told (last_place rs) < 4294967296
 last_small [] h = omega arith
 last_small (r ∷ rs) h = omega (arith, sum_by-take-le size_of (r ∷ rs) (length rs))
+
+last_back : (rs : List Record) → extent rs < 4294967295 → place_read (place_told (last_place rs)) ≡ last_place rs
+last_back [] h = refl
+last_back (r ∷ rs) s =
+    let k = extent (take (length rs) (r ∷ rs)) in
+    let h : k ≡ 4294967295 → ⊥ = λ e. omega (arith, sum_by-take-le size_of (r ∷ rs) (length rs)) in
+    cond-false (eqb k 4294967295) _ _ (ne_eqb k 4294967295 h)
+
+same_place : (a : Option ℕ) → option_eq eqb a a ≡ true
+same_place None = refl
+same_place (Some x) = eq-eqb x x refl
 
 module _ (event sfc dimension : ℕ) (rs : List Record) (fit : AllByRecursion Fits rs) (short : extent rs + 12 ≤ 65536) (typed : event ≤ 1)
     (planned : plan_refusal (size_of_event event) sfc dimension ≡ None) (small : dimension < 65536) where
@@ -83,15 +85,13 @@ module _ (event sfc dimension : ℕ) (rs : List Record) (fit : AllByRecursion Fi
   told : trailer reel ≡ trailer_of event sfc dimension rs
   unfolding trailer_bytes
   told =
-      let l = length_records rs in
-      let at = trailer_place reel in
-      λ i. record {
-        last = (four_behind front_part end_part (extent rs) l at 0 (omega (arith, place)) ∙ four_back (last_place rs) (last_small rs (omega arith))) i;
-        count = (four_behind front_part end_part (extent rs) l (at + 4) 4 (omega (arith, place)) ∙ four_back (length rs) (omega (arith, six_each rs))) i;
-        event = byte_behind front_part end_part (extent rs) l (at + 8) 8 (omega (arith, place)) i;
-        sfc = byte_behind front_part end_part (extent rs) l (at + 9) 9 (omega (arith, place)) i;
-        dimension = (two_behind front_part end_part (extent rs) l (at + 10) 10 (omega (arith, place)) ∙ two_back dimension small) i;
-      }
+      ap read_trailer (drop_at front_part end_part (trailer_place reel) (length_records rs ∙ sym place)) ∙ (λ i. record {
+        last = (ap place_read (four_back (place_told (last_place rs)) (last_small rs (omega arith))) ∙ last_back rs (omega arith)) i;
+        count = four_back (length rs) (omega (arith, six_each rs)) i;
+        event = event;
+        sfc = sfc;
+        dimension = two_back dimension small i;
+      })
 
   found : reel_records reel ≡ rs
   found = ap records (take_at front_part end_part (trailer_place reel) (length_records rs ∙ sym place)) ∙ records_back rs fit
@@ -101,13 +101,13 @@ module _ (event sfc dimension : ℕ) (rs : List Record) (fit : AllByRecursion Fi
       let n : length reel ≡ extent rs + 12 = omega (arith, length-append front_part end_part, length_records rs, length_trailer (trailer_of event sfc dimension rs)) in
       cond-false (bad_length reel) _ _ (or_from _ _ (le-ltb (length reel) 12 (omega arith)) (le-ltb 65536 (length reel) (omega arith)))
       ∙ cond-false _ _ _ (le-ltb 1 (trailer reel).event (omega (arith, ap (λ t. t.event) told)))
-      ∙ ap (plan_fault reel) (ap (λ t. plan_refusal (size_of_event t.event) t.sfc t.dimension) told ∙ planned)
+      ∙ ap (plan_fault (trailer_place reel)) (ap (λ t. plan_refusal (size_of_event t.event) t.sfc t.dimension) told ∙ planned)
 
   records_good : records_refusal reel ≡ None
   records_good =
       cond-false _ _ _ (le-ltb (extent (reel_records reel)) (trailer_place reel) (omega (arith, place, ap extent found)))
       ∙ cond-false _ _ _ (or_from _ _
-      (not_from_true _ (eq-eqb (trailer reel).last (last_place (reel_records reel)) (ap (λ t. t.last) told ∙ ap last_place (sym found))))
+      (not_from_true _ (ap (λ l. option_eq eqb l (last_place (reel_records reel))) (ap (λ t. t.last) told ∙ ap last_place (sym found)) ∙ same_place (last_place (reel_records reel))))
       (not_from_true _ (eq-eqb (trailer reel).count (length (reel_records reel)) (ap (λ t. t.count) told ∙ ap length (sym found)))))
 
   answer : checked reel ≡ answered None (record { count = length rs; rising = rising rs })

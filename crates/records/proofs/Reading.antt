@@ -1,10 +1,14 @@
 -- The records of some bytes, one after another.
-use Rattle.std.proofs.Common.{◌≡◌, ℕ, zero, suc, ◌+◌, ◌-◌, ◌≤◌, Bool, true, false, List, [], ◌∷◌, ◌++◌, length, drop, sym, refl, ap, ◌∙◌, arith}
-use Rattle.std.proofs.lemmas.List.{length-drop, length-take-le, drop-drop, append_assoc, append-nil}
-use Rattle.std.proofs.lemmas.List.Sums.{sum_by_push}
+use Rattle.std.proofs.Common.{◌≡◌, ℕ, zero, suc, ◌-◌, ◌*◌, ◌<◌, ◌≤◌, Bool, true, false, List, [], ◌∷◌, length, take, drop, map, sym, refl, ap, ◌∙◌, arith}
+use Rattle.std.proofs.lemmas.List.{length-drop, length-take-le}
+use Rattle.std.proofs.lemmas.List.Sums.{sum_by-cons}
+use Rattle.std.proofs.lemmas.Slice.{between_to_end}
 use Rattle.std.proofs.lemmas.Bool.{cond-true, cond-false, leb-true}
+use Rattle.faults.specs.declared.records.RecordPosition.{RecordPosition}
+use Rattle.reels.specs.Bytes.{two}
 use Rattle.reels.specs.Records.{Record, size_of, extent}
-use Rattle.records.specs.Reading.{two, front_size, whole, front, up_to, records}
+use Rattle.reels.proofs.Records.{six_each}
+use Rattle.records.specs.Reading.{front_size, whole, front, up_to, records, behind, placed}
 
 pub up_to_none : (n : ℕ) (bs : List ℕ) → whole bs ≡ false → up_to n bs ≡ []
 unfolding up_to
@@ -39,28 +43,45 @@ size_front bs e =
     let h = leb-true _ _ e in
     omega (arith, length-take-le (two bs 4) (drop 6 bs) (omega (arith, length-drop 6 bs)))
 
--- these records were found, and what is left begins after them
-pub record Reached (bs : List ℕ) (done : List Record) : Type 0 where
-  pub inside : extent done ≤ length bs
-  pub left : records bs ≡ done ++ records (drop (extent done) bs)
+-- records take no more bytes than there are
+up_to_inside : (n : ℕ) (bs : List ℕ) (b : Bool) → whole bs ≡ b → extent (up_to n bs) ≤ length bs
+unfolding up_to
+up_to_inside n bs false e = omega (arith, ap extent (up_to_none n bs e))
+up_to_inside zero bs true e = omega arith
+up_to_inside (suc n) bs true e =
+    let rest = drop (front_size bs) bs in
+    omega (arith, ap extent (up_to_more n bs e), sum_by-cons size_of (front bs) (up_to n rest), size_front bs e, up_to_inside n rest (whole rest) refl, length-drop (front_size bs) bs, leb-true _ _ e)
 
-module _ (bs : List ℕ) where
-  pub reached_none : Reached bs []
-  reached_none = record { inside = omega arith; left = refl }
+pub records_inside : (bs : List ℕ) → extent (records bs) ≤ length bs
+records_inside bs = up_to_inside (length bs) bs (whole bs) refl
 
-  module _ (done : List Record) (r : Reached bs done) where
-    -- what is left
-    abbrev pub rest : List ℕ
-    rest = drop (extent done) bs
+-- records with their positions
+pub placed_none : (p : RecordPosition) (bs : List ℕ) → whole bs ≡ false → placed p (records bs) ≡ []
+placed_none p bs e = ap (placed p) (up_to_none (length bs) bs e)
 
-    pub reached_more : whole rest ≡ true → Reached bs (done ++ front rest ∷ [])
-    reached_more e =
-        let n : extent (done ++ front rest ∷ []) ≡ extent done + front_size rest = sum_by_push size_of done (front rest) ∙ ap (λ k. extent done + k) (size_front rest e) in
-        let after : drop (front_size rest) rest ≡ drop (extent (done ++ front rest ∷ [])) bs = drop-drop (front_size rest) (extent done) bs ∙ ap (λ k. drop k bs) (sym n) in
-        record {
-          inside = omega (arith, n, leb-true _ _ e, length-drop (extent done) bs, r.inside);
-          left = r.left ∙ ap (λ rs. done ++ rs) (records_more rest e ∙ ap (λ x. front rest ∷ records x) after) ∙ sym (append_assoc done (front rest ∷ []) _);
-        }
+-- the bytes behind a record
+abbrev pub rest_behind : List ℕ → Record → List ℕ
+rest_behind bs r = take (length bs - size_of r) (drop (size_of r) bs)
 
-    pub reached_all : whole rest ≡ false → records bs ≡ done
-    reached_all e = r.left ∙ ap (λ rs. done ++ rs) (up_to_none (length rest) rest e) ∙ append-nil done
+module _ (p : RecordPosition) (bs : List ℕ) (r : Record) (e : whole bs ≡ true) (f : r ≡ front bs) where
+  pub placed_more : placed p (records bs) ≡ (p, r) ∷ placed (behind p r) (records (rest_behind bs r))
+  placed_more =
+      let n = size_front bs e in
+      let h = leb-true _ _ e in
+      let d = between_to_end bs (size_of r) (length bs) (omega (arith, ap size_of f)) in
+      let left : drop (front_size bs) bs ≡ rest_behind bs r = ap (λ k. drop k bs) (sym n ∙ ap size_of (sym f)) ∙ sym d in
+      ap (placed p) (records_more bs e ∙ (λ i. sym f i ∷ records (left i)))
+
+  pub fewer_placed : length (placed (behind p r) (records (rest_behind bs r))) < length (placed p (records bs))
+  fewer_placed = omega (arith, ap length placed_more)
+
+pub placed_records : (p : RecordPosition) (rs : List Record) → map (λ x. x.1) (placed p rs) ≡ rs
+placed_records p [] = refl
+placed_records p (r ∷ rs) = ap (λ xs. r ∷ xs) (placed_records (behind p r) rs)
+
+length_placed : (p : RecordPosition) (rs : List Record) → length (placed p rs) ≡ length rs
+length_placed p [] = refl
+length_placed p (r ∷ rs) = omega (arith, length_placed (behind p r) rs)
+
+pub few_placed : (p : RecordPosition) (bs : List ℕ) → 6 * length (placed p (records bs)) ≤ length bs
+few_placed p bs = omega (arith, length_placed p (records bs), six_each (records bs), records_inside bs)

@@ -1,13 +1,13 @@
 -- A walk that passes one record more.
-use Rattle.std.proofs.Common.{◌≡◌, ℕ, ◌*◌, ◌≤◌, Bool, true, false, not, ◌&&◌, List, [], ◌∷◌, ◌++◌, length, drop, Some, None, Option, sym, refl, ap, ◌∙◌, subst, arith}
-use Rattle.std.proofs.lemmas.List.{length_push}
-use Rattle.std.proofs.lemmas.List.Sums.{sum_by_push, fold_push}
+use Rattle.std.proofs.Common.{◌≡◌, ℕ, ◌+◌, ◌*◌, ◌≤◌, Bool, true, false, not, ◌&&◌, List, [], ◌∷◌, ◌++◌, map, Some, None, Option, sym, refl, ap, ◌∙◌, arith}
+use Rattle.std.proofs.lemmas.List.{length_push, append_assoc, append-nil}
+use Rattle.std.proofs.lemmas.List.Sums.{sum_by_push, sum_by-append, sum_by-cons, fold_push}
 use Rattle.clock.specs.Cycles.{not_later}
+use Rattle.faults.specs.declared.records.RecordPosition.{RecordPosition}
 use Rattle.reels.specs.Records.{Record, size_of, extent, rises_after}
 use Rattle.reels.proofs.Records.{last_place_push, six_each}
-use Rattle.records.proofs.Reading.{Reached, reached_more, reached_all}
 use Rattle.records.specs.declared.walk.Walk.{Walk}
-use Rattle.records.specs.Reading.{whole, front, records}
+use Rattle.records.specs.Reading.{Placed}
 use Rattle.records.specs.Walking.{last_cycle, over, passed}
 
 and_true : (a : Bool) → (a && true) ≡ (true && a)
@@ -32,30 +32,34 @@ over_push rs r = λ i. record {
   rising = rises_push None rs r i;
 }
 
--- a walk over some bytes has passed records that were found there
-pub record Passed (bs : List ℕ) (w : Walk) : Type 0 where
+-- of all these records a walk has passed the first, and the last are left
+abbrev pub records_of : Placed → List Record
+records_of xs = map (λ x. x.1) xs
+
+pub record Passed (all : Placed) (w : Walk) (left : Placed) : Type 0 where
   pub done : List Record
   pub walk : w ≡ over done
-  pub reached : Reached bs done
+  pub rest : records_of all ≡ done ++ records_of left
 
-module _ (bs : List ℕ) (w : Walk) (p : Passed bs w) where
-  pub passed_inside : w.at ≤ length bs
-  passed_inside = omega (arith, ap (λ v. v.at) p.walk, p.reached.inside)
+module _ (all : Placed) where
+  pub passed_none : Passed all (over []) all
+  passed_none = record { done = []; walk = refl; rest = refl }
 
-  pub passed_few : 6 * w.count ≤ w.at
-  passed_few = omega (arith, ap (λ v. v.at) p.walk, ap (λ v. v.count) p.walk, six_each p.done)
+  module _ (w : Walk) (left : Placed) (p : Passed all w left) where
+    pub passed_all : left ≡ [] → w ≡ over (records_of all)
+    passed_all e = p.walk ∙ ap over (sym (p.rest ∙ ap (λ xs. p.done ++ records_of xs) e ∙ append-nil p.done))
 
-  -- x is what is left of the bytes
-  module _ (x : List ℕ) (l : x ≡ drop w.at bs) where
-    here : x ≡ drop (extent p.done) bs
-    here = l ∙ ap (λ v. drop v.at bs) p.walk
+    module _ (x : RecordPosition × Record) (more : Placed) (e : left ≡ x ∷ more) where
+      pub passed_more : Passed all (passed w x.1) more
+      passed_more = record {
+        done = p.done ++ x.1 ∷ [];
+        walk = ap (λ v. passed v x.1) p.walk ∙ sym (over_push p.done x.1);
+        rest = p.rest ∙ ap (λ xs. p.done ++ records_of xs) e ∙ sym (append_assoc p.done (x.1 ∷ []) (records_of more));
+      }
 
-    pub passed_more : (r : Record) → whole x ≡ true → r ≡ front x → Passed bs (passed w r)
-    passed_more r e f = record {
-      done = p.done ++ r ∷ [];
-      walk = ap (λ v. passed v r) p.walk ∙ sym (over_push p.done r);
-      reached = subst (λ y. Reached bs (p.done ++ y ∷ [])) (sym (f ∙ ap front here)) (reached_more bs p.done p.reached (sym (ap whole here) ∙ e));
-    }
+      pub passed_inside : w.at + size_of x.1 ≤ extent (records_of all)
+      passed_inside =
+          omega (arith, ap (λ v. v.at) p.walk, ap extent (p.rest ∙ ap (λ xs. p.done ++ records_of xs) e), sum_by-append size_of p.done (records_of (x ∷ more)), sum_by-cons size_of x.1 (records_of more))
 
-    pub passed_all : whole x ≡ false → w ≡ over (records bs)
-    passed_all e = p.walk ∙ ap over (sym (reached_all bs p.done p.reached (sym (ap whole here) ∙ e)))
+    pub passed_few : 6 * w.count ≤ w.at
+    passed_few = omega (arith, ap (λ v. v.at) p.walk, ap (λ v. v.count) p.walk, six_each p.done)

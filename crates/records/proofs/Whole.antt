@@ -1,19 +1,19 @@
 -- A reel that is accepted is the bytes of its records and of its trailer.
-use Rattle.std.proofs.Common.{◌≡◌, ℕ, zero, suc, ◌+◌, ◌*◌, ◌/◌, ◌%◌, ◌<◌, ◌≤◌, Bool, true, false, not, ◌||◌, eqb, ltb, List, [], ◌∷◌, ◌++◌, length, take, drop, IfOk, None, Ok, Err, Result, sym, refl, ap, ◌∙◌, subst, ⊎_elim, arith, lit<}
+use Rattle.std.proofs.Common.{◌≡◌, ℕ, zero, suc, ◌+◌, ◌*◌, ◌/◌, ◌%◌, ◌<◌, ◌≤◌, Bool, true, false, not, ◌||◌, eqb, ltb, cond, List, [], ◌∷◌, ◌++◌, length, take, drop, IfOk, Some, None, Ok, Err, Option, Result, sym, refl, ap, ◌∙◌, subst, ⊎_elim, arith, lit<}
 use Rattle.std.proofs.lemmas.List.{drop_more, drop_all, drop-drop, get_or-drop, get_or-take, get_or_past, length-drop, length-take, length-take-le, take-append-drop, append_assoc, append-nil}
 use Rattle.std.proofs.lemmas.List.Sums.{sum_by-cons}
 use Rattle.std.proofs.lemmas.Bool.{cases_lt, or_parts, not-false, eqb-true, ltb-false, leb-true}
 use Rattle.std.specs.List.{flat_map}
+use Rattle.std.specs.Option.{option_eq}
 use Rattle.faults.proofs.Outcomes.{was_ok, none_refused, neither_refused}
-use Rattle.reels.specs.Bytes.{bytes2, bytes4}
+use Rattle.reels.specs.Bytes.{bytes2, bytes4, byte, two, four}
 use Rattle.reels.specs.Records.{record_bytes, size_of, extent, last_place}
-use Rattle.reels.specs.Trailers.{Trailer, trailer_bytes, trailer_of}
+use Rattle.reels.specs.Trailers.{place_told, trailer_bytes, read_trailer, trailer_of}
 use Rattle.records.specs.declared.checked.Checked.{Checked}
 use Rattle.records.specs.declared.fault.ReelFault.{ReelFault}
 use Rattle.records.specs.Checking.{bad_length, trailer_place, trailer, reel_records, trailer_refusal, records_refusal, check_refusal, checked}
 use Rattle.records.specs.Laws.{IsItsRecords}
-use Rattle.records.specs.Reading.{byte, two, four, front_size, whole, front, up_to, records}
-use Rattle.records.proofs.Captured.{byte_behind, two_behind, four_behind}
+use Rattle.records.specs.Reading.{front_size, whole, front, up_to, records}
 use Rattle.records.proofs.Reading.{up_to_none, up_to_more, size_front}
 
 -- every number of the list is a byte
@@ -90,17 +90,25 @@ records_bytes bs s h =
     sym (append-nil (flat_map record_bytes (records bs))) ∙ ap (λ t. flat_map record_bytes (records bs) ++ t) (sym (drop_all (extent (records bs)) bs h))
     ∙ up_to_bytes (length bs) bs (whole bs) refl s
 
--- twelve bytes read as a trailer, and written again
-abbrev read_trailer : List ℕ → Trailer
-read_trailer t = record { last = four t 0; count = four t 4; event = byte t 8; sfc = byte t 9; dimension = two t 10 }
+-- a place that was read, told again
+told_read : (n : ℕ) (b : Bool) → eqb n 4294967295 ≡ b → place_told (cond b None (Some n)) ≡ n
+told_read n true e = sym (eqb-true _ _ e)
+told_read n false e = refl
 
+-- twelve bytes read as a trailer, and written again
 trailer_bytes_back : (t : List ℕ) → length t ≡ 12 → Small t → trailer_bytes (read_trailer t) ≡ t
 unfolding trailer_bytes
 trailer_bytes_back t h s =
-    (λ i. bytes4_four (byte t 0) (byte t 1) (byte t 2) (byte t 3) (s 0) (s 1) (s 2) (s 3) i
+    (λ i. (ap bytes4 (told_read (four t 0) (eqb (four t 0) 4294967295) refl) ∙ bytes4_four (byte t 0) (byte t 1) (byte t 2) (byte t 3) (s 0) (s 1) (s 2) (s 3)) i
     ++ (bytes4_four (byte t 4) (byte t 5) (byte t 6) (byte t 7) (s 4) (s 5) (s 6) (s 7) i
     ++ (byte t 8 ∷ byte t 9 ∷ bytes2_two (byte t 10) (byte t 11) (s 10) (s 11) i)))
     ∙ sym (twelve t h)
+
+same_places : (a b : Option ℕ) → option_eq eqb a b ≡ true → a ≡ b
+same_places None None e = refl
+same_places None (Some y) e = cc
+same_places (Some x) None e = cc
+same_places (Some x) (Some y) e = ap Some (eqb-true x y e)
 
 module _ (reel : List ℕ) (s : Small reel) (e : check_refusal reel ≡ None) where
   refusals : (trailer_refusal reel ≡ None) × (records_refusal reel ≡ None)
@@ -124,22 +132,8 @@ module _ (reel : List ℕ) (s : Small reel) (e : check_refusal reel ≡ None) wh
   agreed : (trailer_place reel ≤ extent (reel_records reel)) × ((trailer reel).last ≡ last_place (reel_records reel)) × ((trailer reel).count ≡ length (reel_records reel))
   agreed =
       let reaches = none_refused (ltb (extent (reel_records reel)) (trailer_place reel)) _ _ refusals.1 in
-      let tells = or_parts _ _ (none_refused (not (eqb (trailer reel).last (last_place (reel_records reel))) || not (eqb (trailer reel).count (length (reel_records reel)))) _ None reaches.1).0 in
-      (ltb-false _ _ reaches.0, eqb-true _ _ (not-false _ tells.0), eqb-true _ _ (not-false _ tells.1))
-
-  -- the trailer is read from the end
-  read_end : trailer reel ≡ read_trailer end
-  read_end =
-      let at = trailer_place reel in
-      let swap : trailer reel ≡ record { last = four (body ++ end) at; count = four (body ++ end) (at + 4); event = byte (body ++ end) (at + 8); sfc = byte (body ++ end) (at + 9); dimension = two (body ++ end) (at + 10) } =
-      λ i. record { last = four (sym both i) at; count = four (sym both i) (at + 4); event = byte (sym both i) (at + 8); sfc = byte (sym both i) (at + 9); dimension = two (sym both i) (at + 10) } in
-      swap ∙ (λ i. record {
-        last = four_behind body end at length_body at 0 (omega arith) i;
-        count = four_behind body end at length_body (at + 4) 4 refl i;
-        event = byte_behind body end at length_body (at + 8) 8 refl i;
-        sfc = byte_behind body end at length_body (at + 9) 9 refl i;
-        dimension = two_behind body end at length_body (at + 10) 10 refl i;
-      })
+      let tells = or_parts _ _ (none_refused (not (option_eq eqb (trailer reel).last (last_place (reel_records reel))) || not (eqb (trailer reel).count (length (reel_records reel)))) _ None reaches.1).0 in
+      (ltb-false _ _ reaches.0, same_places _ _ (not-false _ tells.0), eqb-true _ _ (not-false _ tells.1))
 
   pub is_its_records : IsItsRecords reel
   is_its_records =
@@ -147,7 +141,7 @@ module _ (reel : List ℕ) (s : Small reel) (e : check_refusal reel ≡ None) wh
       let told : trailer_of t.event t.sfc t.dimension (reel_records reel) ≡ t =
       λ i. record { last = sym agreed.1 i; count = sym agreed.2 i; event = t.event; sfc = t.sfc; dimension = t.dimension } in
       let front_part = records_bytes body (small_take (trailer_place reel) reel s) (omega (arith, length_body, agreed.0)) in
-      let end_part = ap trailer_bytes (told ∙ read_end) ∙ trailer_bytes_back end (omega (arith, length-drop (trailer_place reel) reel, long)) (small_drop (trailer_place reel) reel s) in
+      let end_part = ap trailer_bytes told ∙ trailer_bytes_back end (omega (arith, length-drop (trailer_place reel) reel, long)) (small_drop (trailer_place reel) reel s) in
       sym ((λ i. front_part i ++ end_part i) ∙ both)
 
 pub accepted_whole : (reel : List ℕ) → Small reel → (r : Result Checked ReelFault) → r ≡ checked reel → IfOk r (λ _. IsItsRecords reel)

@@ -1,16 +1,8 @@
 -- The records that stand in some bytes.
-use Rattle.std.specs.Prelude.{ℕ, zero, suc, ◌+◌, ◌*◌, Bool, cond, List, [], ◌∷◌, length, take, drop, nat_le, slice_index}
-use Rattle.reels.specs.Records.{Record}
-
--- numbers of one, two and four bytes at a place, the high byte first
-abbrev pub byte : List ℕ → ℕ → ℕ
-byte bs k = slice_index bs k
-
-abbrev pub two : List ℕ → ℕ → ℕ
-two bs k = 256 * byte bs k + byte bs (k + 1)
-
-abbrev pub four : List ℕ → ℕ → ℕ
-four bs k = 65536 * two bs k + two bs (k + 2)
+use Rattle.std.specs.Prelude.{ℕ, zero, suc, ◌+◌, Bool, cond, List, [], ◌∷◌, length, take, drop, nat_le}
+use Rattle.faults.specs.declared.records.RecordPosition.{RecordPosition}
+use Rattle.reels.specs.Bytes.{two, four}
+use Rattle.reels.specs.Records.{Record, size_of}
 
 -- how many bytes the record at the front says that it has, and whether they are there
 abbrev pub front_size : List ℕ → ℕ
@@ -30,3 +22,18 @@ up_to (suc n) bs = cond (whole bs) (front bs ∷ up_to n (drop (front_size bs) b
 -- all of them: there are fewer than bytes
 abbrev pub records : List ℕ → List Record
 records bs = up_to (length bs) bs
+
+-- where the first record stands, and where the next one does
+abbrev pub origin : RecordPosition
+origin = record { number = 0; place = 0 }
+
+abbrev pub behind : RecordPosition → Record → RecordPosition
+behind p r = record { number = p.number + 1; place = p.place + size_of r }
+
+-- records with their positions, the first at p
+abbrev pub Placed : Type 0
+Placed = List (RecordPosition × Record)
+
+abbrev pub placed : RecordPosition → List Record → Placed
+placed p [] = []
+placed p (r ∷ rs) = (p, r) ∷ placed (behind p r) rs

@@ -14,4 +14,4 @@ over rs = record { at = extent rs; count = length rs; last = last_place rs; cycl
 
 -- one record more
 abbrev pub passed : Walk → Record → Walk
-passed w r = record { at = w.at + size_of r; count = w.count + 1; last = w.at; cycle = Some r.cycle; rising = w.rising && not (not_later r.cycle w.cycle) }
+passed w r = record { at = w.at + size_of r; count = w.count + 1; last = Some w.at; cycle = Some r.cycle; rising = w.rising && not (not_later r.cycle w.cycle) }

@@ -6,6 +6,8 @@ mod checked;
 mod checking;
 mod fault;
 mod record;
+mod reel;
+mod sequence;
 mod trailer;
 mod walk;
 
@@ -13,4 +15,6 @@ pub use checked::Checked;
 pub use checking::check;
 pub use fault::{ReelCause, ReelFault};
 pub use record::{Record, first_record};
+pub use reel::Reel;
+pub use sequence::Records;
 pub use trailer::planned;

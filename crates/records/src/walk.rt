@@ -1,8 +1,9 @@
-ghost use Rattle.std.specs.Prelude.{◌≡◌, ◌+◌, ◌*◌, ◌<◌, ◌≤◌, length};
-ghost use Rattle.records.specs.Reading.{records};
+ghost use Rattle.std.specs.Prelude.{◌≡◌, ◌+◌, ◌≤◌, length, map};
+ghost use Rattle.records.specs.Placing.{seen, records_left};
 ghost use Rattle.records.specs.Walking.{over, passed};
 
-use crate::record::{Record, first_record};
+use crate::record::Record;
+use crate::sequence::Records;
 use clock::not_later;
 
 /// How far a walk over records has come: how many bytes and records it has passed, the place and the
@@ -11,7 +12,7 @@ use clock::not_later;
 pub struct Walk {
     pub at: usize,
     pub count: u32,
-    pub last: u32,
+    pub last: Option<u32>,
     pub cycle: Option<u32>,
     pub rising: bool,
 }
@@ -21,9 +22,9 @@ impl Walk {
     fn pass(&mut self, next: Record<'_>)
         requires near { self.old.at + (6 + length next.packet.now) ≤ 65536 }
         requires few { self.old.count ≤ 65536 }
-        ensures { self.new ≡ passed self.old (record { cycle = next.entry.cycle; packet = next.entry.packet.now }) }
+        ensures { self.new ≡ passed self.old (seen next.entry) }
     {
-        self.last = self.at as u32;
+        self.last = Some(self.at as u32);
         self.at += 6 + next.packet.len();
         self.count += 1;
         self.rising = self.rising && !not_later(next.cycle, self.cycle);
@@ -31,19 +32,18 @@ impl Walk {
     }
 }
 
-/// Walks over the records of some bytes, as far as they stand whole.
-pub(crate) fn walk_over(bytes: &[u8]) -> Walk
-    requires { length bytes.now ≤ 65536 }
-    ensures { result ≡ over (records bytes.now) }
+/// Walks over records to the last one.
+pub(crate) fn walk_over(records: Records<'_>) -> Walk
+    ensures { result ≡ over (map (λ x. x.1) (records_left records.entry)) }
 {
     let mut walk = Walk {
         at: 0,
         count: 0,
-        last: u32::MAX,
+        last: None,
         cycle: None,
         rising: true,
     };
-    'records: while let Some(record) = first_record(&bytes[walk.at..]) {
+    for (_, record) in records {
         walk.pass(record);
     }
     walk

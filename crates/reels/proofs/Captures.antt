@@ -1,5 +1,5 @@
 -- What a capture has written.
-use Rattle.std.proofs.Common.{◌≡◌, ℕ, ◌+◌, ◌<◌, ◌≤◌, List, [], ◌∷◌, ◌++◌, length, take, None, Ok, Err, sym, refl, ap, ◌∙◌, subst, arith}
+use Rattle.std.proofs.Common.{◌≡◌, ℕ, ◌+◌, ◌<◌, ◌≤◌, List, [], ◌∷◌, ◌++◌, length, take, Some, None, Ok, Err, sym, refl, ap, ◌∙◌, subst, arith}
 use Rattle.std.proofs.lemmas.List.Edits.{take-paste}
 use Rattle.std.proofs.ByRecursion.{All-append}
 use Rattle.std.proofs.lemmas.List.{length_push, take_all, flat_map_more}
@@ -16,7 +16,8 @@ use Rattle.reels.specs.Captures.{Capture, opens, moves, appends, refuses}
 use Rattle.reels.specs.Full.{too_long, full_refusal}
 use Rattle.reels.specs.Plans.{event_of, sfc_of, dimension_of}
 use Rattle.reels.specs.Records.{Record, Fits, record_bytes, size_of, extent}
-use Rattle.reels.specs.Trailers.{Trailer, trailer_bytes, trailer_of, reel_bytes}
+use Rattle.reels.specs.declared.trailer.Trailer.{Trailer}
+use Rattle.reels.specs.Trailers.{trailer_bytes, trailer_of, reel_bytes}
 use Rattle.reels.specs.Writing.{Open, view, grown, written, Appends, Closed}
 use Rattle.reels.proofs.Records.{length_record, last_place_push}
 
@@ -54,7 +55,7 @@ module _ (p : ReelPlan) where
           ∙ ap (λ x. x ++ record_bytes r) h.records ∙ flat_map_more record_bytes [] rs r;
       used = ap (λ k. k + size_of r) h.used ∙ sym (sum_by_push size_of rs r);
       trailer = λ i. record {
-        last = (h.used ∙ sym (last_place_push rs r)) i;
+        last = (ap Some h.used ∙ sym (last_place_push rs r)) i;
         count = (ap (λ t. t.count + 1) h.trailer ∙ sym (length_push rs r)) i;
         event = (h.trailer i).event;
         sfc = (h.trailer i).sfc;

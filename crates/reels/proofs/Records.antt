@@ -1,5 +1,5 @@
 -- The bytes of records, one record more.
-use Rattle.std.proofs.Common.{◌≡◌, ◌*◌, ◌≤◌, List, [], ◌∷◌, ◌++◌, length, refl, ap, arith}
+use Rattle.std.proofs.Common.{◌≡◌, ◌*◌, ◌≤◌, List, [], ◌∷◌, ◌++◌, length, Some, refl, ap, arith}
 use Rattle.std.proofs.lemmas.List.{length-append, length_push, take_at}
 use Rattle.std.proofs.lemmas.List.Sums.{sum_by-cons}
 use Rattle.std.specs.List.{flat_map}
@@ -18,6 +18,6 @@ pub six_each : (rs : List Record) → 6 * length rs ≤ extent rs
 six_each [] = omega arith
 six_each (r ∷ rs) = omega (arith, six_each rs, sum_by-cons size_of r rs)
 
-pub last_place_push : (rs : List Record) (r : Record) → last_place (rs ++ r ∷ []) ≡ extent rs
+pub last_place_push : (rs : List Record) (r : Record) → last_place (rs ++ r ∷ []) ≡ Some (extent rs)
 last_place_push [] r = refl
-last_place_push (x ∷ xs) r = ap extent (take_at (x ∷ xs) (r ∷ []) (length (xs ++ r ∷ [])) (omega (arith, length_push xs r)))
+last_place_push (x ∷ xs) r = ap (λ s. Some (extent s)) (take_at (x ∷ xs) (r ∷ []) (length (xs ++ r ∷ [])) (omega (arith, length_push xs r)))

@@ -24,10 +24,10 @@ size_of r = 6 + length r.packet
 abbrev pub extent : List Record → ℕ
 extent rs = sum_by size_of rs
 
--- the place of the last record: that many bytes are before it; FFFFFFFFh where there is none
-abbrev pub last_place : List Record → ℕ
-last_place [] = 0xffffffff
-last_place (r ∷ rs) = extent (take (length rs) (r ∷ rs))
+-- the place of the last record, if there is one: that many bytes are before it
+abbrev pub last_place : List Record → Option ℕ
+last_place [] = None
+last_place (r ∷ rs) = Some (extent (take (length rs) (r ∷ rs)))
 
 -- each cycle exceeds the one before
 abbrev pub rises_after : Option ℕ → List Record → Bool

@@ -1,5 +1,5 @@
 -- What opening, appending and closing answer and leave, for every cycle, packet and bytes.
-use Rattle.std.specs.Prelude.{◌≡◌, ℕ, ◌+◌, List, length, Some, None, Option, Result}
+use Rattle.std.specs.Prelude.{◌≡◌, ℕ, ◌+◌, List, length, Some, None, Result}
 use Rattle.std.proofs.Math.Seq.{paste}
 use Rattle.faults.specs.Outcomes.{answered, changed}
 use Rattle.reels.specs.declared.full.ReelFull.{ReelFull}
@@ -10,27 +10,24 @@ use Rattle.reels.specs.declared.reel.OpenReel.{OpenReel}
 use Rattle.reels.specs.Full.{full_refusal}
 use Rattle.reels.specs.Plans.{event_of, sfc_of, dimension_of}
 use Rattle.reels.specs.Records.{Record, record_bytes, size_of}
-use Rattle.reels.specs.Trailers.{Trailer, trailer_bytes}
+use Rattle.reels.specs.declared.trailer.Trailer.{Trailer}
+use Rattle.reels.specs.Trailers.{trailer_bytes}
 
 -- an open reel as contracts speak of it: the trailer that it would get now, and the bytes that its records take
 pub record Open : Type 0 where
   pub trailer : Trailer
   pub used : ℕ
 
-abbrev pub place_told : Option ℕ → ℕ
-place_told None = 0xffffffff
-place_told (Some at) = at
-
 abbrev pub view : OpenReel → Open
-view o = record { trailer = record { last = place_told o.last; count = o.count; event = o.event; sfc = o.sfc; dimension = o.dimension }; used = o.used }
+view o = record { trailer = record { last = o.last; count = o.count; event = o.event; sfc = o.sfc; dimension = o.dimension }; used = o.used }
 
 abbrev pub opened : ReelPlan → Open
-opened p = record { trailer = record { last = 0xffffffff; count = 0; event = event_of p; sfc = sfc_of p; dimension = dimension_of p }; used = 0 }
+opened p = record { trailer = record { last = None; count = 0; event = event_of p; sfc = sfc_of p; dimension = dimension_of p }; used = 0 }
 
 -- the reel with one record more
 abbrev pub grown : Open → Record → Open
 grown o r = record {
-  trailer = record { last = o.used; count = o.trailer.count + 1; event = o.trailer.event; sfc = o.trailer.sfc; dimension = o.trailer.dimension };
+  trailer = record { last = Some o.used; count = o.trailer.count + 1; event = o.trailer.event; sfc = o.trailer.sfc; dimension = o.trailer.dimension };
   used = o.used + size_of r;
 }
 

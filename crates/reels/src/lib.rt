@@ -7,8 +7,10 @@
 mod full;
 mod plan;
 mod reel;
+mod trailer;
 mod writing;
 
 pub use full::ReelFull;
 pub use plan::ReelPlan;
 pub use reel::{ClosedReel, NotClosed, OpenReel};
+pub use trailer::Trailer;

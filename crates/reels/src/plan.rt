@@ -2,6 +2,7 @@ ghost use Rattle.std.specs.Prelude.{◌≡◌};
 ghost use Rattle.reels.specs.Plans.{event_of, sfc_of, dimension_of};
 
 use am824::Am824;
+use kinds::Kind;
 use pack::Pack;
 use plans::Plan;
 
@@ -12,14 +13,15 @@ pub enum ReelPlan {
     Pack(Plan<Pack>),
 }
 
+// The arms of `sfc` and of `dimension` say the same of two types, which no one pattern can bind.
 impl ReelPlan {
     /// The event type.
     pub fn event(&self) -> u8
         ensures { result ≡ event_of self.now }
     {
         match self {
-            ReelPlan::Am824(_) => 0,
-            ReelPlan::Pack(_) => 1,
+            ReelPlan::Am824(_) => Am824::EVT,
+            ReelPlan::Pack(_) => Pack::EVT,
         }
     }
 

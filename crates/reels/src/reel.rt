@@ -13,6 +13,7 @@ pub struct OpenReel {
     event: u8,
     sfc: u8,
     dimension: u16,
+    // The bytes are the caller's and are passed at each call, so how many are used is kept here.
     used: usize,
     count: u32,
     last: Option<u32>,

@@ -2,7 +2,6 @@ ghost use Rattle.std.specs.Prelude.{◌≡◌, ◌+◌, ◌<◌, ◌≤◌, [], 
 ghost use Rattle.reels.specs.Bytes.{bytes2, bytes4};
 ghost use Rattle.reels.specs.Full.{too_long};
 ghost use Rattle.reels.specs.Records.{record_bytes, size_of};
-ghost use Rattle.reels.specs.Trailers.{trailer_bytes};
 ghost use Rattle.reels.specs.Writing.{written};
 
 /// Whether records of an extent and a trailer are too many bytes.
@@ -25,9 +24,9 @@ pub(crate) fn put(bytes: &mut [u8], at: usize, part: &[u8])
 fn head(cycle: u32, length: u16) -> [u8; 6]
     ensures { result ≡ bytes4 cycle ++ bytes2 length }
 {
-    let cycle = cycle.to_be_bytes();
-    let length = length.to_be_bytes();
-    [cycle[0], cycle[1], cycle[2], cycle[3], length[0], length[1]]
+    let [c0, c1, c2, c3] = cycle.to_be_bytes();
+    let [l0, l1] = length.to_be_bytes();
+    [c0, c1, c2, c3, l0, l1]
 }
 
 /// Writes a record at a place.
@@ -38,27 +37,4 @@ pub(crate) fn put_record(bytes: &mut [u8], at: usize, cycle: u32, packet: &[u8])
 {
     put(bytes, at, &head(cycle, packet.len() as u16));
     put(bytes, at + 6, packet);
-}
-
-/// The twelve bytes of a trailer.
-pub(crate) fn trailer_bytes(last: u32, count: u32, event: u8, sfc: u8, dimension: u16) -> [u8; 12]
-    ensures { result ≡ trailer_bytes (record { last = last; count = count; event = event; sfc = sfc; dimension = dimension }) }
-{
-    let last = last.to_be_bytes();
-    let count = count.to_be_bytes();
-    let dimension = dimension.to_be_bytes();
-    [
-        last[0],
-        last[1],
-        last[2],
-        last[3],
-        count[0],
-        count[1],
-        count[2],
-        count[3],
-        event,
-        sfc,
-        dimension[0],
-        dimension[1],
-    ]
 }

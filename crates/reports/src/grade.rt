@@ -22,15 +22,14 @@ impl Grade {
         ensures { result ≡ grade_of missed refused widest interval }
     {
         if missed == 0 {
-            return Grade::Clear;
+            Grade::Clear
+        } else if refused > 0 {
+            Grade::Doubtful
+        } else if widest <= interval {
+            Grade::Marked
+        } else {
+            Grade::Worn
         }
-        if refused > 0 {
-            return Grade::Doubtful;
-        }
-        if widest <= interval {
-            return Grade::Marked;
-        }
-        Grade::Worn
     }
 
     /// The grade in one word.
@@ -50,7 +49,6 @@ impl fmt::Display for Grade {
     ghost output = { λ grade. Some (name_of grade) };
 
     fn fmt<W: fmt::Write>(&self, f: &mut fmt::Formatter<W>) -> fmt::Result {
-        let name = self.name();
-        write!(f, "{name}")
+        f.write_str(self.name())
     }
 }

@@ -27,12 +27,15 @@ impl fmt::Display for Report {
     ghost output = { λ report. Some (report_text report) };
 
     fn fmt<W: fmt::Write>(&self, f: &mut fmt::Formatter<W>) -> fmt::Result {
-        let heard = self.heard;
-        let missed = self.missed;
-        let gaps = self.gaps;
-        let widest = self.widest;
-        let refused = self.refused;
-        let grade = self.grade;
+        let Report {
+            heard,
+            missed,
+            gaps,
+            widest,
+            refused,
+            grade,
+            ..
+        } = self;
         write!(
             f,
             "heard {heard} missed {missed} gaps {gaps} widest {widest} refused {refused} grade {grade}"

@@ -1,23 +1,11 @@
-ghost use Rattle.std.specs.Prelude.{◌≡◌, ◌<◌, []};
-ghost use Rattle.grading.specs.Tallies.{tally_of, counted};
+ghost use Rattle.std.specs.Prelude.{◌≡◌, ◌<◌};
+ghost use Rattle.grading.specs.Tallies.{counted};
 
 use crate::tally::Tally;
 use faults::RecordFault;
 use listeners::Heard;
 
 impl Tally {
-    /// Nothing heard yet.
-    pub(crate) fn new() -> Tally
-        ensures { result ≡ tally_of [] }
-    {
-        Tally {
-            gaps: 0,
-            widest: 0,
-            refused: 0,
-            first: None,
-        }
-    }
-
     /// Counts what the hearing of a record answered.
     pub(crate) fn count(&mut self, answer: Result<Heard, RecordFault>)
         requires gaps { self.old.gaps < 65536 }
@@ -26,7 +14,7 @@ impl Tally {
     {
         match answer {
             Ok(heard) => {
-                self.gaps += (heard.gap > 0) as u32;
+                self.gaps += u32::from(heard.gap > 0);
                 self.widest = self.widest.max(heard.gap);
             }
             Err(fault) => {

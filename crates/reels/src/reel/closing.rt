@@ -1,28 +1,24 @@
 ghost use Rattle.std.specs.Prelude.{◌≡◌, ◌+◌, ◌≤◌, length, MatchResult};
 ghost use Rattle.reels.specs.Trailers.{trailer_bytes};
-ghost use Rattle.reels.specs.Writing.{view, place_told, written, Closed, HandedBack};
+ghost use Rattle.reels.specs.Writing.{view, written, Closed, HandedBack};
 
 use crate::full::ReelFull;
 use crate::reel::{ClosedReel, NotClosed, OpenReel};
-use crate::writing::{put, too_long, trailer_bytes};
-
-/// The place of the last record as a trailer tells it.
-fn place_told(last: Option<u32>) -> u32
-    ensures { result ≡ place_told last }
-{
-    match last {
-        Some(place) => place,
-        None => u32::MAX,
-    }
-}
+use crate::trailer::Trailer;
+use crate::writing::{put, too_long};
 
 impl OpenReel {
     /// The trailer that the reel would get now.
-    fn trailer(&self) -> [u8; 12]
-        ensures { result ≡ trailer_bytes (view self.now).trailer }
+    fn trailer(&self) -> Trailer
+        ensures { result ≡ (view self.now).trailer }
     {
-        let last = place_told(self.last);
-        trailer_bytes(last, self.count, self.event, self.sfc, self.dimension)
+        Trailer {
+            last: self.last,
+            count: self.count,
+            event: self.event,
+            sfc: self.sfc,
+            dimension: self.dimension,
+        }
     }
 
     /// Writes the trailer after the records.
@@ -30,7 +26,7 @@ impl OpenReel {
         requires { self.now.used + 12 ≤ length bytes.old }
         ensures { bytes.new ≡ written bytes.old self.now.used (trailer_bytes (view self.now).trailer) }
     {
-        put(bytes, self.used, &self.trailer());
+        put(bytes, self.used, &self.trailer().to_bytes());
     }
 
     /// Writes the trailer after the records in `bytes` and ends the reel; a refusal changes nothing

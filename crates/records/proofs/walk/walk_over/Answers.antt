@@ -1,26 +1,29 @@
-use Rattle.std.proofs.Common.{length, sym, subst, arith}
-use Rattle.std.proofs.lemmas.Slice.{between_to_end}
-use Rattle.records.proofs.Walking.{Passed, passed_inside, passed_few, passed_more, passed_all}
+use Rattle.std.proofs.Common.{ap, arith}
+use Rattle.reels.specs.Records.{extent}
+use Rattle.records.specs.Placing.{as_placed, records_left}
+use Rattle.records.specs.Reading.{records}
+use Rattle.records.proofs.Reading.{placed_records, records_inside}
+use Rattle.records.proofs.Walking.{passed_none, passed_more, passed_inside, passed_few, passed_all}
 use Rattle.records.proofs.walk.walk_over.Goals as goal
+
+pub loop-record-init : goal.loop-record-init
+loop-record-init c = rw c.into_iter-record-iterator.ensures.into_iter_gives (tt, tt, passed_none _)
 
 pub pass-requires : goal.pass-requires
 pass-requires c =
-    let bs = c.args.bytes.now in
-    let w = c.records.walk in
-    let p = c.records.invariant in
-    let r = c.in-Some.ensures in
-    let q = passed_more bs w p _ (between_to_end bs w.at (length bs) (omega arith)) _ r.0 r.1 in
-    record { near = omega (arith, passed_inside bs _ q); few = omega (arith, passed_few bs w p, passed_inside bs w p) }
+    let it = c.args.records in
+    let w = c.loop-record.walk in
+    let p = c.loop-record.invariant.2 in
+    let inside = passed_inside (records_left it) w _ p (as_placed (c.in-Some.field-0-0, c.in-Some.record)) _ c.in-Some.ensures.steps in
+    let near = ap extent (placed_records it.position (records it.rest.now)) in
+    let most = records_inside it.rest.now in
+    record { near = omega (arith, inside, near, most); few = omega (arith, inside, near, most, passed_few (records_left it) w _ p) }
 
-pub records-preserved : goal.records-preserved
-records-preserved c =
-    let bs = c.args.bytes.now in
-    let w = c.records.walk in
-    let r = c.in-Some.ensures in
-    subst (Passed bs) (sym c.pass.ensures) (passed_more bs w c.records.invariant _ (between_to_end bs w.at (length bs) (omega arith)) _ r.0 r.1)
+pub loop-record-preserved : goal.loop-record-preserved
+loop-record-preserved c =
+    let all = records_left c.args.records in
+    let more = passed_more all c.loop-record.walk _ c.loop-record.invariant.2 (as_placed (c.in-Some.field-0-0, c.in-Some.record)) _ c.in-Some.ensures.steps in
+    (tt, tt, rw c.pass.ensures more)
 
 pub returns : goal.returns
-returns c =
-    let bs = c.args.bytes.now in
-    let w = c.records.walk in
-    passed_all bs w c.records.invariant _ (between_to_end bs w.at (length bs) (omega arith)) c.in_default.ensures
+returns c = passed_all (records_left c.args.records) c.loop-record.walk _ c.loop-record.invariant.2 c.in-None.ensures.steps.0

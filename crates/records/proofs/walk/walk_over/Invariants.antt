@@ -1,9 +1,9 @@
-use Rattle.std.proofs.Common.{◌-◌, length}
+use Rattle.records.specs.Placing.{records_left}
 use Rattle.records.proofs.Walking.{Passed}
 use Rattle.records.proofs.walk.walk_over.Given as goal
 
-abbrev pub invariant-records : goal.invariant-records
-invariant-records l = Passed l.bytes l.walk
-
-abbrev pub decreases-records : goal.decreases-records
-decreases-records l = length l.bytes - l.walk.at
+abbrev pub invariant-loop-record : goal.invariant-loop-record
+invariant-loop-record l =
+    (goal.iterator-loop-record).can_next l.record-iterator ×
+    (goal.iterator-loop-record).is_finite l.record-iterator ×
+    Passed (records_left l.records) l.walk (records_left l.record-iterator)
