@@ -15,7 +15,12 @@ use std::alloc::AllocError;
 fn digit(code: u8) -> u8
     ensures { result < 16 }
 {
-    char::from(code).to_digit(16).unwrap_or(0) as u8
+    // By its own ranges: `char::to_digit` would take capital letters too.
+    match code {
+        b'0'..=b'9' => code - b'0',
+        b'a'..=b'f' => code - b'a' + 10,
+        _ => 0,
+    }
 }
 
 /// The bytes of a text of hexadecimal digits, two a byte.

@@ -11,9 +11,6 @@ pub fn line_of(heap: Global, answer: Result<Report, ReelFault>) -> Result<String
 {
     match answer {
         Ok(report) => format!(in heap; "{report}\n"),
-        Err(fault) => {
-            let refusal = fault.refusal();
-            format!(in heap; "reel {refusal}\n")
-        }
+        Err(fault) => format!(in heap; "reel {fault}\n"),
     }
 }
