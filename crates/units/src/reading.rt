@@ -6,6 +6,7 @@ use faults::{Locate, Located, UnitFault};
 use kinds::Kind;
 
 /// Whether the first `count` units of `bytes` are units; else the first that is refused.
+#[tactic(auto, using(crate::proofs::Rows::reached_located, crate::proofs::Rows::reached_all))]
 pub fn check_row<K: Kind>(bytes: &[u8], count: usize) -> Result<(), Located<usize, UnitFault>>
     ensures { result ≡ whether (row (4 * K.size) K.heard count bytes.now) }
 {
