@@ -16,7 +16,7 @@ loop-i-preserved g c =
     let i = c.loop-i.i in
     let us = c.args.units.now in
     let e = c.size.ensures.same in
-    let r = room _ _ _ _ c.size.ensures.some c.if-out-step.false c.loop-i-test.true in
+    let r = room (length c.args.out.now) c.size.result (length us) i c.size.ensures.some (omega arith) c.loop-i-test.true in
     let at : 4 * c.size.result * i ≡ 4 * m.size * i = ap (λ k. 4 * k * i) e in
     let next : 4 * c.size.result * i + 4 * m.size ≡ 4 * m.size * (i + 1) = omega (arith, next_place (4 * m.size) i) in
     laid_more m.code (4 * m.size) g.met.K.Kind.long c.args.out.now c.loop-i.out c.write.new.out us i (4 * c.size.result * i) c.index-units-i.result
