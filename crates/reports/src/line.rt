@@ -9,6 +9,7 @@ use std::alloc::{AllocError, Global};
 pub fn line_of(heap: Global, answer: Result<Report, ReelFault>) -> Result<String, AllocError>
     ensures { IfOk result (λ text. string_bytes text ≡ line answer) }
 {
+    // Both answers have a line, so both have an arm.
     match answer {
         Ok(report) => format!(in heap; "{report}\n"),
         Err(fault) => format!(in heap; "reel {fault}\n"),

@@ -5,6 +5,7 @@ use crate::fault::RowFault;
 use faults::{Locate, Located, UnitFault};
 use kinds::Kind;
 
+// `row` goes by a size and a meaning and not by a kind, since a stream, which names no kind, has rows too.
 /// Whether the first `count` units of `bytes` are units; else the first that is refused.
 #[tactic(auto, using(crate::proofs::Rows::reached_located, crate::proofs::Rows::reached_all))]
 pub fn check_row<K: Kind>(bytes: &[u8], count: usize) -> Result<(), Located<usize, UnitFault>>
@@ -27,6 +28,7 @@ fn fill_row<K: Kind>(bytes: &[u8], list: &mut [K::Unit])
     let step = 4 * K::size() as usize;
     let mut rest = bytes;
     for slot in list {
+        // By a return and no `?`: the row was checked, and there is no fault to tell.
         let Ok(unit) = K::read(rest) else {
             return;
         };
@@ -35,6 +37,7 @@ fn fill_row<K: Kind>(bytes: &[u8], list: &mut [K::Unit])
     }
 }
 
+// A count beside the list, whose rest is the caller's and stays.
 /// Reads the first `count` units of `bytes` to the front of `list` and leaves its rest, or refuses
 /// and leaves all.
 pub fn read_row<K: Kind>(bytes: &[u8], count: usize, list: &mut [K::Unit]) -> Result<(), RowFault>

@@ -12,6 +12,7 @@ impl Tally {
         requires refused { self.old.refused < 65536 }
         ensures { self.new ≡ counted self.old answer }
     {
+        // Both answers are counted, so both have an arm.
         match answer {
             Ok(heard) => {
                 self.gaps += u32::from(heard.gap > 0);

@@ -38,11 +38,10 @@ impl<'a> Packet<'a> {
     fn bad_stamp<K: Kind>(&self, plan: &Plan<K>) -> bool
         ensures { result ≡ bad_stamp (stream plan.now) self.now.bytes.now }
     {
-        let Some(stamp) = self.stamp() else {
-            return false;
-        };
         let index = plan.stamped_index(self.dbc() as u32) as usize;
-        stamp % 4096 > 3071 || self.blocks(plan) <= index
+        let no_block = self.blocks(plan) <= index;
+        self.stamp()
+            .is_some_and(|stamp| stamp % 4096 > 3071 || no_block)
     }
 
     /// What the packet is by a plan, or why it is refused: the smallest number wins.

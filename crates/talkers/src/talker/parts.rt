@@ -27,10 +27,8 @@ pub fn write_packet<K: Kind>(
     ensures answer { result ≡ laid_answer (8 + 4 * K.size * length units.now) bytes.old }
     ensures bytes { bytes.new ≡ laid (8 + 4 * K.size * length units.now) (header ++ flat_map K.code units.now) bytes.old }
 {
-    if bytes.len() < 8 {
-        return Err(UnitFault::ROOM);
-    }
-    write_row::<K>(units, &mut bytes[8..])?;
-    bytes[0..8].copy_from_slice(&header);
+    let (front, rest) = bytes.split_first_chunk_mut().ok_or(UnitFault::ROOM)?;
+    write_row::<K>(units, rest)?;
+    *front = header;
     Ok(())
 }
