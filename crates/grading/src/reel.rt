@@ -40,11 +40,11 @@ fn hear_by(
     }
 }
 
+// Two lists of the caller's, of any length each; a reel uses the one of its kind.
 /// Grades a reel: it is checked, and its records are heard in order with a new listener, their units
 /// going to the front of the list of their kind. A refused reel leaves both lists as they were.
 pub fn grade_reel(
     reel: &[u8],
-    // The lists are the caller's and may have any length; a reel uses the one of its kind.
     quadlets: &mut [Am824Unit],
     packs: &mut [PackUnit],
 ) -> Result<Report, ReelFault>
