@@ -15,6 +15,7 @@ pub struct RecordPosition {
     pub place: u32,
 }
 
+// A type of its own and no `Located`: each lower fault is carried into the upper one by `From` and `?`.
 /// Why the packet of a record is refused.
 #[derive(Clone, Copy, PartialEq, Eq, Debug)]
 pub struct RecordFault {

@@ -4,6 +4,7 @@ ghost use Rattle.faults.specs.Refusals.{text};
 use std::error::Error;
 use std::fmt;
 
+// A fault tells it by a call `refusal`, which names what comes of it, as `into` would not.
 // A fault of another crate prints itself by its own impl, since Rust lets no one impl stand for all faults.
 /// A refusal as it is told: its number, and a place counted in bytes from 0.
 #[derive(Clone, Copy, PartialEq, Eq, Debug)]

@@ -10,8 +10,11 @@ pub struct Bits24 {
     pub low: u16,
 }
 
-// Methods and not conversions: 24 bits have two readings, and a name says which.
+// Methods and not conversions: 24 bits have two readings as a number, and bytes go by the names of std's.
 impl Bits24 {
+    /// 24 bits that are zero.
+    pub const ZERO: Bits24 = Bits24 { high: 0, low: 0 };
+
     /// The bits of a number from 0 to 16,777,215.
     pub fn new(field: u32) -> Result<Bits24, UnitFault>
         ensures { result ≡ made field }
@@ -62,13 +65,8 @@ impl Bits24 {
     pub fn number(self) -> i32
         ensures { result ≡ number_of self }
     {
-        // By the place where the sign turns, as the contract has it: shifts would say no more.
-        let field = self.field() as i32;
-        if field < 8_388_608 {
-            field
-        } else {
-            field - 16_777_216
-        }
+        let [high, middle, low] = self.to_bytes();
+        i32::from_be_bytes([high, middle, low, 0]) / 256
     }
 
     /// The bits that three bytes hold, the high byte first.

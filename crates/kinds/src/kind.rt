@@ -23,6 +23,7 @@ pub trait Kind {
     ghost heard: { List ℕ → Answer Self.Unit UnitFault };
 
     /// The quadlets of a unit, 1 to 1,022.
+    // A function and no constant, so that it promises its bounds.
     fn size() -> u16
         ensures same { result ≡ size }
         ensures some { 1 ≤ result }

@@ -30,6 +30,7 @@ impl Worked {
     }
 
     /// The default delay.
+    // The truth value that `default_delay` takes, handed on.
     pub fn delay(&self, blocking: bool) -> Result<u32, PlanFault> {
         default_delay(self.plan.sfc(), blocking).map(u32::from)
     }

@@ -13,6 +13,7 @@ use kinds::{Bits24, Kind, lay};
 #[derive(Clone, Copy)]
 pub struct Pack;
 
+// Twelve names for twelve bytes: parts of three would have to be cut and joined again.
 /// The twelve bytes of a pack.
 fn encode(unit: PackUnit) -> [u8; 12]
     ensures { result ≡ code_of unit }

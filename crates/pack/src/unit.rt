@@ -1,7 +1,8 @@
 use kinds::Bits24;
 
 /// Four samples in the order in which they stand: every value is a unit.
-#[derive(Clone, Copy, PartialEq, Debug)]
+// Four fields and no array, so that units lie in lists as plain values.
+#[derive(Clone, Copy, PartialEq, Eq, Debug)]
 pub struct PackUnit {
     pub first: Bits24,
     pub second: Bits24,
@@ -12,9 +13,9 @@ pub struct PackUnit {
 impl PackUnit {
     /// Four samples of 0.
     pub const SILENCE: PackUnit = PackUnit {
-        first: Bits24 { high: 0, low: 0 },
-        second: Bits24 { high: 0, low: 0 },
-        third: Bits24 { high: 0, low: 0 },
-        fourth: Bits24 { high: 0, low: 0 },
+        first: Bits24::ZERO,
+        second: Bits24::ZERO,
+        third: Bits24::ZERO,
+        fourth: Bits24::ZERO,
     };
 }

@@ -20,7 +20,7 @@ pub struct Plan<K: Kind> {
     ghost fits: { 2 + interval_of sfc * dimension * K.size ≤ 1024 },
 }
 
-// Written out, since no Clone is derived for a struct with a ghost field.
+// Written out: no `Clone` is derived for a struct with a parameter and a ghost field.
 impl<K: Kind> Clone for Plan<K> {
     ghost is_clone = { λ plan copy. copy ≡ plan };
 

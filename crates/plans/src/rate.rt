@@ -21,7 +21,8 @@ pub(crate) fn interval(sfc: u8) -> u8
 
 impl Rate {
     /// The rate of a sampling frequency code, 0 to 6.
-    // The code is the number that FDF and a trailer carry, so no enum of rates stands between.
+    // The code is the number that FDF and a trailer carry, so no enum of rates stands between; an `Option`,
+    // since what a code without a rate is refused with is the caller's business.
     pub fn of(sfc: u8) -> Option<Rate>
         ensures value { result ≡ rate_of sfc }
         ensures rule { IfSome result (λ rate. rate.interval ≡ interval_at rate.hertz) }

@@ -2,7 +2,8 @@ use crate::marker::Marker;
 use kinds::{Bits24, Nibble};
 
 /// What a quadlet carries: every value is a unit, and no two have the same quadlet.
-#[derive(Clone, Copy, PartialEq, Debug)]
+// A case for each label and each count of MIDI bytes, so that every value is a unit.
+#[derive(Clone, Copy, PartialEq, Eq, Debug)]
 pub enum Am824Unit {
     /// An IEC 60958 subframe, with the low four bits of its label.
     Subframe {

@@ -21,6 +21,7 @@ pub fn check_row<K: Kind>(bytes: &[u8], count: usize) -> Result<(), Located<usiz
     Ok(())
 }
 
+// A walk beside that of `check_row`, since a refusal leaves the list untouched.
 /// Writes the units at the front of `bytes` over the whole list, up to the first refused.
 fn fill_row<K: Kind>(bytes: &[u8], list: &mut [K::Unit])
     ensures { (us : List K.Unit) → row (4 * K.size) K.heard (length list.old) bytes.now ≡ Ok us → list.new ≡ us }

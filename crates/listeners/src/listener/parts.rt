@@ -10,6 +10,7 @@ use packets::Packet;
 use plans::Plan;
 use units::{RowFault, read_row};
 
+// By the packet alone: a `Sorted` beside it would have to be shown to be that packet's.
 /// How many blocks a packet counts: an idle one none.
 pub fn count_of<K: Kind>(plan: &Plan<K>, packet: &Packet<'_>) -> u32
     ensures { result ≡ count (stream plan.now) packet.now.bytes.now }
@@ -55,6 +56,7 @@ fn unit_fault<K: Kind>(dimension: u16, at: Located<usize, UnitFault>) -> PacketF
     Located { position, fault }.into()
 }
 
+// Bytes and no `Packet`: a weighing hands on what it found, and not what it looked at.
 /// Reads the units of a packet's blocks to the front of a list, or refuses and leaves the list.
 pub fn read_units<K: Kind>(
     plan: &Plan<K>,
@@ -68,7 +70,7 @@ pub fn read_units<K: Kind>(
 {
     let dimension = plan.dimension();
     let units = dimension as usize * blocks as usize;
-    // By cases: what is known of the index is not known inside a closure for map_err.
+    // By cases: in a closure for `map_err` nothing is known of the index (`map_err-requires` is not proved).
     match read_row::<K>(&packet[8..], units, list) {
         Ok(()) => Ok(()),
         Err(RowFault::List) => Err(PacketFault::List),

@@ -27,6 +27,7 @@ fn raw(code: u8, bits: Bits24) -> Am824Unit
     ensures { result ≡ raw_field code (field bits) }
 {
     let [high, middle, low] = bits.to_bytes();
+    // By the length code again, which a sample keeps as a number.
     match code {
         0 => Am824Unit::Raw24(bits),
         1 => Am824Unit::Raw20(u16::from_be_bytes([high, middle]), Nibble::low(low / 16)),
@@ -58,7 +59,7 @@ impl Sample {
         self.number
     }
 
-    // A method beside `of`: not every unit is a sample, and none is refused for that.
+    // Methods: `of` is no refusal where a unit is no sample, and `unit`, which undoes it, stands beside it.
     /// The sample as a unit of a list.
     pub fn unit(self) -> Am824Unit
         ensures value { result ≡ raw_unit self.code self.number }
@@ -73,6 +74,7 @@ impl Sample {
         ensures value { option_map plain result ≡ raw_of unit }
         ensures back { IfSome result (λ s. raw_unit s.code s.number ≡ unit) }
     {
+        // The cases that the text of a unit has too, with a code where that has a length.
         match unit {
             Am824Unit::Raw24(bits) => Some(Sample {
                 code: 0,

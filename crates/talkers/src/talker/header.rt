@@ -12,6 +12,7 @@ use packets::Header;
 use plans::Method;
 
 impl<K: Kind, M: Method> Talker<K, M> {
+    // Two facts on the blocks that go, twice: a struct that holds them would be made and taken apart here alone.
     /// The stamp of the next packet, of so many blocks: none without a stamped block, or where its
     /// time is past.
     fn stamp(&self, arrivals: &[u64], blocks: u32, cycle: u32) -> Option<u16>
@@ -38,7 +39,7 @@ impl<K: Kind, M: Method> Talker<K, M> {
             dbs: self.plan.dbs(),
             dbc: (self.place % 256) as u8,
             fdf: self.plan.fdf(),
-            syt: self.stamp(arrivals, blocks, cycle).unwrap_or(0xffff),
+            syt: self.stamp(arrivals, blocks, cycle),
         };
         header.to_bytes()
     }
