@@ -4,7 +4,6 @@ use kinds::Bits24;
 use pack::{Pack, PackUnit};
 use plans::Plan;
 use quadlets::Am824Unit;
-use reels::ReelPlan;
 use std::fmt;
 use std::str::FromStr;
 
@@ -34,7 +33,6 @@ fn samples(rt: &HostRuntime, blocks: u64) -> anyhow::Result<Silence<Am824>> {
     let arrivals = (0..blocks).map(|block| block.saturating_mul(512));
     Ok(Silence {
         plan,
-        reel: ReelPlan::Am824(plan),
         unit: Am824Unit::Raw24(Bits24 { high: 0, low: 0 }),
         arrivals: arrivals.collect(rt.alloc())?,
     })
@@ -46,7 +44,6 @@ fn packs(rt: &HostRuntime, blocks: u64) -> anyhow::Result<Silence<Pack>> {
     let arrivals = (0..blocks).map(|block| (block / 5).saturating_mul(3_072));
     Ok(Silence {
         plan,
-        reel: ReelPlan::Pack(plan),
         unit: PackUnit::SILENCE,
         arrivals: arrivals.collect(rt.alloc())?,
     })
