@@ -4,7 +4,6 @@ use kinds::Bits24;
 use pack::{Pack, PackUnit};
 use plans::Plan;
 use quadlets::Am824Unit;
-use reels::ReelPlan;
 use std::fmt;
 use std::str::FromStr;
 
@@ -28,13 +27,12 @@ pub enum Capture {
 #[derive(Clone, Copy, Debug)]
 pub struct NoCapture;
 
+// One function of both would take the arrivals as an iterator, and need a clause that it is finite.
 /// At 48 kHz two silent samples a block, and a block every 512 ticks.
 fn samples(rt: &HostRuntime, blocks: u64) -> anyhow::Result<Silence<Am824>> {
-    let plan = Plan::new(2, 2)?;
     let arrivals = (0..blocks).map(|block| block.saturating_mul(512));
     Ok(Silence {
-        plan,
-        reel: ReelPlan::Am824(plan),
+        plan: Plan::new(2, 2)?,
         unit: Am824Unit::Raw24(Bits24 { high: 0, low: 0 }),
         arrivals: arrivals.collect(rt.alloc())?,
     })
@@ -42,11 +40,9 @@ fn samples(rt: &HostRuntime, blocks: u64) -> anyhow::Result<Silence<Am824>> {
 
 /// At 48 kHz a silent pack a block, and five blocks every cycle.
 fn packs(rt: &HostRuntime, blocks: u64) -> anyhow::Result<Silence<Pack>> {
-    let plan = Plan::new(2, 1)?;
     let arrivals = (0..blocks).map(|block| (block / 5).saturating_mul(3_072));
     Ok(Silence {
-        plan,
-        reel: ReelPlan::Pack(plan),
+        plan: Plan::new(2, 1)?,
         unit: PackUnit::SILENCE,
         arrivals: arrivals.collect(rt.alloc())?,
     })

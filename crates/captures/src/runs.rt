@@ -15,12 +15,10 @@ pub enum Mishap {
     Spoiled(u32),
 }
 
-/// A silent stream: its plan, the same as a reel has it, the unit that it repeats, and the ticks at
-/// which its blocks arrive.
+/// A silent stream: its plan, the unit that it repeats, and the ticks at which its blocks arrive.
 #[derive(Drop)]
 pub struct Silence<K: Kind> {
     pub plan: Plan<K>,
-    pub reel: ReelPlan,
     pub unit: K::Unit,
     pub arrivals: Vec<u64>,
 }
@@ -43,7 +41,10 @@ fn spoil(packet: &mut [u8]) {
     }
 }
 
-impl<K: Kind> Silence<K> {
+impl<K: Kind> Silence<K>
+where
+    ReelPlan: From<Plan<K>>,
+{
     /// The reel of a run through some cycles.
     pub fn captured(
         &self,
@@ -59,7 +60,7 @@ impl<K: Kind> Silence<K> {
             units: &units,
         };
         let mut talker = Talker::new(self.plan, NonBlocking, 1, 8_704)?;
-        let mut reel = OpenReel::new(&self.reel);
+        let mut reel = OpenReel::new(&self.plan.into());
         // The library writes to bytes of the caller's, and tells at the end how many it took.
         let mut bytes = vec![in rt.alloc(); 0; 8_192]?;
         for cycle in cycles {

@@ -9,7 +9,7 @@ use std::error::Error;
 use std::fmt;
 
 /// Where a record stands in a reel: its number from 0, and its first byte.
-#[derive(Clone, Copy, PartialEq, Eq, Debug)]
+#[derive(Clone, Copy, PartialEq, Eq, Debug, Default)]
 pub struct RecordPosition {
     pub number: u32,
     pub place: u32,

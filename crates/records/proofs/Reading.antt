@@ -1,8 +1,7 @@
 -- The records of some bytes, one after another.
-use Rattle.std.proofs.Common.{◌≡◌, ℕ, zero, suc, ◌-◌, ◌*◌, ◌<◌, ◌≤◌, Bool, true, false, List, [], ◌∷◌, length, take, drop, map, sym, refl, ap, ◌∙◌, arith}
+use Rattle.std.proofs.Common.{◌≡◌, ℕ, zero, suc, ◌-◌, ◌*◌, ◌<◌, ◌≤◌, Bool, true, false, List, [], ◌∷◌, length, drop, map, sym, refl, ap, ◌∙◌, arith}
 use Rattle.std.proofs.lemmas.List.{length-drop, length-take-le}
 use Rattle.std.proofs.lemmas.List.Sums.{sum_by-cons}
-use Rattle.std.proofs.lemmas.Slice.{between_to_end}
 use Rattle.std.proofs.lemmas.Bool.{cond-true, cond-false, leb-true}
 use Rattle.faults.specs.declared.records.RecordPosition.{RecordPosition}
 use Rattle.reels.specs.Bytes.{two}
@@ -59,20 +58,11 @@ records_inside bs = up_to_inside (length bs) bs (whole bs) refl
 pub placed_none : (p : RecordPosition) (bs : List ℕ) → whole bs ≡ false → placed p (records bs) ≡ []
 placed_none p bs e = ap (placed p) (up_to_none (length bs) bs e)
 
--- the bytes behind a record
-abbrev pub rest_behind : List ℕ → Record → List ℕ
-rest_behind bs r = take (length bs - size_of r) (drop (size_of r) bs)
+module _ (p : RecordPosition) (bs rest : List ℕ) (r : Record) (e : whole bs ≡ true) (f : r ≡ front bs) (g : rest ≡ drop (front_size bs) bs) where
+  pub placed_more : placed p (records bs) ≡ (p, r) ∷ placed (behind p r) (records rest)
+  placed_more = ap (placed p) (records_more bs e ∙ (λ i. sym f i ∷ records (sym g i)))
 
-module _ (p : RecordPosition) (bs : List ℕ) (r : Record) (e : whole bs ≡ true) (f : r ≡ front bs) where
-  pub placed_more : placed p (records bs) ≡ (p, r) ∷ placed (behind p r) (records (rest_behind bs r))
-  placed_more =
-      let n = size_front bs e in
-      let h = leb-true _ _ e in
-      let d = between_to_end bs (size_of r) (length bs) (omega (arith, ap size_of f)) in
-      let left : drop (front_size bs) bs ≡ rest_behind bs r = ap (λ k. drop k bs) (sym n ∙ ap size_of (sym f)) ∙ sym d in
-      ap (placed p) (records_more bs e ∙ (λ i. sym f i ∷ records (left i)))
-
-  pub fewer_placed : length (placed (behind p r) (records (rest_behind bs r))) < length (placed p (records bs))
+  pub fewer_placed : length (placed (behind p r) (records rest)) < length (placed p (records bs))
   fewer_placed = omega (arith, ap length placed_more)
 
 pub placed_records : (p : RecordPosition) (rs : List Record) → map (λ x. x.1) (placed p rs) ≡ rs

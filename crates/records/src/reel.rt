@@ -95,10 +95,7 @@ impl<'a> Reel<'a> {
     {
         Records {
             rest: self.bytes,
-            position: RecordPosition {
-                number: 0,
-                place: 0,
-            },
+            position: RecordPosition::default(),
         }
     }
 

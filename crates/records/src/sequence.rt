@@ -1,6 +1,6 @@
 ghost use Rattle.std.specs.Prelude.{◌+◌, ◌≤◌, length};
 
-use crate::record::{Record, first_record};
+use crate::record::{Record, split_first_record};
 use faults::RecordPosition;
 
 /// The records that stand whole in some bytes of a reel, one after another, each with its position.
@@ -25,9 +25,9 @@ impl<'a> Iterator for Records<'a> {
     #[tactic(auto, using(crate::proofs::Reading::placed_none))]
     fn next(&mut self) -> Option<(RecordPosition, Record<'a>)> {
         let position = self.position;
-        let record = first_record(self.rest)?;
+        let (record, rest) = split_first_record(self.rest)?;
         let size = 6 + record.packet.len();
-        self.rest = &self.rest[size..];
+        self.rest = rest;
         self.position = RecordPosition {
             number: position.number + 1,
             place: position.place + size as u32,

@@ -43,6 +43,7 @@ pub(crate) fn walk_over(records: Records<'_>) -> Walk
         cycle: None,
         rising: true,
     };
+    // The contract holds for records from any position on, so the count is the walk's own and not the reader's.
     for (_, record) in records {
         walk.pass(record);
     }

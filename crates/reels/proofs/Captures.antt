@@ -89,7 +89,7 @@ module _ (p : ReelPlan) where
   pub closed_reel : (o : OpenReel) (bytes bytes' : List ℕ) (rs : List Record) (c : ClosedReel) → Holds (view o) bytes rs → Closed o bytes bytes' c
       → take c.length bytes' ≡ reel_bytes (event_of p) (sfc_of p) (dimension_of p) rs
   closed_reel o bytes bytes' rs c h k =
-      let t = trailer_bytes (view o).trailer in
+      let t = trailer_bytes o.trailer in
       let m = has_room o.used (length bytes) k.fits in
-      ap (take c.length) k.left ∙ take_written bytes t o.used c.length (k.length ∙ ap (λ n. o.used + n) (sym (length_trailer (view o).trailer))) (omega (arith, m.inside))
+      ap (take c.length) k.left ∙ take_written bytes t o.used c.length (k.length ∙ ap (λ n. o.used + n) (sym (length_trailer o.trailer))) (omega (arith, m.inside))
       ∙ (λ i. h.records i ++ trailer_bytes (h.trailer i))

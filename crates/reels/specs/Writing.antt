@@ -19,7 +19,7 @@ pub record Open : Type 0 where
   pub used : ℕ
 
 abbrev pub view : OpenReel → Open
-view o = record { trailer = record { last = o.last; count = o.count; event = o.event; sfc = o.sfc; dimension = o.dimension }; used = o.used }
+view o = record { trailer = o.trailer; used = o.used }
 
 abbrev pub opened : ReelPlan → Open
 opened p = record { trailer = record { last = None; count = 0; event = event_of p; sfc = sfc_of p; dimension = dimension_of p }; used = 0 }
@@ -44,9 +44,9 @@ pub record Appends (o : Open) (r : Record) (bytes : List ℕ) (a : Result (Unit 
 -- what a closing answers and leaves: the closed reel, or the open one as it was
 pub record Closed (o : OpenReel) (bytes bytes' : List ℕ) (c : ClosedReel) : Type 0 where
   pub fits : full_refusal o.used (length bytes) ≡ None
-  pub left : bytes' ≡ written bytes o.used (trailer_bytes (view o).trailer)
+  pub left : bytes' ≡ written bytes o.used (trailer_bytes o.trailer)
   pub length : c.length ≡ o.used + 12
-  pub count : c.count ≡ o.count
+  pub count : c.count ≡ o.trailer.count
 
 pub record HandedBack (o : OpenReel) (bytes bytes' : List ℕ) (n : NotClosed) : Type 0 where
   pub full : full_refusal o.used (length bytes) ≡ Some n.fault

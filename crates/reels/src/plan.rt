@@ -1,5 +1,6 @@
 ghost use Rattle.std.specs.Prelude.{◌≡◌};
 ghost use Rattle.reels.specs.Plans.{event_of, sfc_of, dimension_of};
+ghost use Rattle.reels.specs.declared.plan.ReelPlan.TheVariants.{Am824 as HeldAm824, Pack as HeldPack};
 
 use am824::Am824;
 use kinds::Kind;
@@ -43,5 +44,21 @@ impl ReelPlan {
             ReelPlan::Am824(plan) => plan.dimension(),
             ReelPlan::Pack(plan) => plan.dimension(),
         }
+    }
+}
+
+impl From<Plan<Am824>> for ReelPlan {
+    ghost from_gives = { λ plan r. r ≡ HeldAm824 plan };
+
+    fn from(plan: Plan<Am824>) -> ReelPlan {
+        ReelPlan::Am824(plan)
+    }
+}
+
+impl From<Plan<Pack>> for ReelPlan {
+    ghost from_gives = { λ plan r. r ≡ HeldPack plan };
+
+    fn from(plan: Plan<Pack>) -> ReelPlan {
+        ReelPlan::Pack(plan)
     }
 }

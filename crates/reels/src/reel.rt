@@ -1,24 +1,20 @@
 ghost use Rattle.std.specs.Prelude.{◌+◌, ◌*◌, ◌≤◌};
 
 use crate::full::ReelFull;
+use crate::trailer::Trailer;
 
 mod appending;
 mod closed;
 mod closing;
 
-/// A reel that takes records: its stream, the bytes and the number of its records, and the place of
-/// the last.
+/// A reel that takes records: the trailer that it would get now, and the bytes of its records.
 #[derive(Drop)]
 pub struct OpenReel {
-    event: u8,
-    sfc: u8,
-    dimension: u16,
+    trailer: Trailer,
     // The bytes are the caller's and are passed at each call, so how many are used is kept here.
     used: usize,
-    count: u32,
-    last: Option<u32>,
     ghost room: { used + 12 ≤ 65536 },
-    ghost sized: { 6 * count ≤ used },
+    ghost sized: { 6 * trailer.count ≤ used },
 }
 
 /// A reel that has its trailer and takes no more records.

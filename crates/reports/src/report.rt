@@ -6,7 +6,7 @@ use faults::RecordFault;
 use std::fmt;
 
 /// The figures of a run.
-#[derive(Clone, Copy, PartialEq, Debug)]
+#[derive(Clone, Copy, PartialEq, Eq, Debug)]
 pub struct Report {
     /// Blocks heard.
     pub heard: u64,

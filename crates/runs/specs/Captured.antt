@@ -38,13 +38,13 @@ with_both = written with_one 70 (record_bytes second)
 
 -- the reel before it is closed, and after
 abbrev pub open_reel : OpenReel
-open_reel = record { event = 0; sfc = 2; dimension = 2; used = 84; count = 2; last = Some 70; room = lit≤ tt; sized = lit≤ tt }
+open_reel = record { trailer = record { last = Some 70; count = 2; event = 0; sfc = 2; dimension = 2 }; used = 84; room = lit≤ tt; sized = lit≤ tt }
 
 abbrev pub closed_reel : ClosedReel
 closed_reel = record { length = 96; count = 2 }
 
 abbrev pub all : List ℕ
-all = written with_both 84 (trailer_bytes (view open_reel).trailer)
+all = written with_both 84 (trailer_bytes open_reel.trailer)
 
 -- the calls are those of a capture, so that the law of captures applies, and the reel has these bytes
 pub record TwoPacketsCaptured : Type 0 where

@@ -4,6 +4,7 @@ ghost use Rattle.reels.specs.Writing.{view, opened, Appends};
 use crate::full::ReelFull;
 use crate::plan::ReelPlan;
 use crate::reel::OpenReel;
+use crate::trailer::Trailer;
 use crate::writing::{put_record, too_long};
 
 impl OpenReel {
@@ -12,12 +13,14 @@ impl OpenReel {
         ensures { view result ≡ opened plan.now }
     {
         OpenReel {
-            event: plan.event(),
-            sfc: plan.sfc(),
-            dimension: plan.dimension(),
+            trailer: Trailer {
+                last: None,
+                count: 0,
+                event: plan.event(),
+                sfc: plan.sfc(),
+                dimension: plan.dimension(),
+            },
             used: 0,
-            count: 0,
-            last: None,
         }
     }
 
@@ -30,8 +33,8 @@ impl OpenReel {
             return Err(ReelFull);
         }
         put_record(bytes, self.used, cycle, packet);
-        self.last = Some(self.used as u32);
-        self.count += 1;
+        self.trailer.last = Some(self.used as u32);
+        self.trailer.count += 1;
         self.used = used;
         Ok(())
     }

@@ -1,32 +1,18 @@
 ghost use Rattle.std.specs.Prelude.{◌≡◌, ◌+◌, ◌≤◌, length, MatchResult};
 ghost use Rattle.reels.specs.Trailers.{trailer_bytes};
-ghost use Rattle.reels.specs.Writing.{view, written, Closed, HandedBack};
+ghost use Rattle.reels.specs.Writing.{written, Closed, HandedBack};
 
 use crate::full::ReelFull;
 use crate::reel::{ClosedReel, NotClosed, OpenReel};
-use crate::trailer::Trailer;
 use crate::writing::{put, too_long};
 
 impl OpenReel {
-    /// The trailer that the reel would get now.
-    fn trailer(&self) -> Trailer
-        ensures { result ≡ (view self.now).trailer }
-    {
-        Trailer {
-            last: self.last,
-            count: self.count,
-            event: self.event,
-            sfc: self.sfc,
-            dimension: self.dimension,
-        }
-    }
-
     /// Writes the trailer after the records.
     fn put_trailer(&self, bytes: &mut [u8])
         requires { self.now.used + 12 ≤ length bytes.old }
-        ensures { bytes.new ≡ written bytes.old self.now.used (trailer_bytes (view self.now).trailer) }
+        ensures { bytes.new ≡ written bytes.old self.now.used (trailer_bytes self.now.trailer) }
     {
-        put(bytes, self.used, &self.trailer().to_bytes());
+        put(bytes, self.used, &self.trailer.to_bytes());
     }
 
     /// Writes the trailer after the records in `bytes` and ends the reel; a refusal changes nothing
@@ -43,7 +29,7 @@ impl OpenReel {
         self.put_trailer(bytes);
         Ok(ClosedReel {
             length: self.used + 12,
-            count: self.count,
+            count: self.trailer.count,
         })
     }
 }
