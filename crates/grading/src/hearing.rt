@@ -28,6 +28,7 @@ fn hear_record<K: Kind>(
     Ok(listener.hear(next.cycle, next.packet, list).at(position)?)
 }
 
+// Field by field: a report's figures are public, a tally's are the library's own.
 /// What a listener and a tally have counted, and its grade.
 fn report_of<K: Kind>(listener: &Listener<K>, tally: Tally, interval: u8) -> Report
     ensures { result ≡ reported interval listener.now.heard listener.now.missed tally }

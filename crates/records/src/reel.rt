@@ -82,6 +82,7 @@ impl<'a> Reel<'a> {
             ..
         } = self.trailer;
         let refused = |fault| self.plan_fault(fault);
+        // An arm for each kind, since the plans are of two types.
         match event {
             Am824::EVT => Ok(ReelPlan::Am824(Plan::new(sfc, dimension as u32).map_err(refused)?)),
             Pack::EVT => Ok(ReelPlan::Pack(Plan::new(sfc, dimension as u32).map_err(refused)?)),

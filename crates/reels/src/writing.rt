@@ -12,6 +12,7 @@ pub(crate) fn too_long(extent: usize, room: usize) -> bool
     room < extent + 12 || extent + 12 > 65_536
 }
 
+// A place beside the bytes: what stays before it and behind the part is in the promise.
 /// Writes a part over the bytes from a place on.
 pub(crate) fn put(bytes: &mut [u8], at: usize, part: &[u8])
     requires { at + length part.now ≤ length bytes.old }
