@@ -1,4 +1,4 @@
-ghost use Rattle.std.specs.Prelude.{◌≡◌, ◌+◌, ◌*◌, ◌≤◌, length, Some, MatchResult};
+ghost use Rattle.std.specs.Prelude.{◌≡◌, ◌+◌, ◌*◌, ◌≤◌, length, Some, Err, MatchResult};
 ghost use Rattle.faults.specs.Packets.{carried};
 ghost use Rattle.plans.specs.Streams.{stream};
 ghost use Rattle.listeners.specs.Hearing.{count, time, position_of, read_refusal, Reads};
@@ -45,15 +45,15 @@ fn position<K: Kind>(dimension: u16, index: usize) -> UnitPosition
     }
 }
 
-/// The fault of the unit at an index of a packet, as the packet's.
-fn unit_fault<K: Kind>(dimension: u16, at: Located<usize, UnitFault>) -> PacketFault
+/// Refuses a packet for the fault of its unit at an index.
+fn refuse_unit<K: Kind>(dimension: u16, at: Located<usize, UnitFault>) -> Result<(), PacketFault>
     requires some { 1 ≤ dimension }
     requires inside { 8 + 4 * K.size * at.position ≤ 4096 }
-    ensures { result ≡ carried (record { position = position_of (4 * K.size) dimension at.position; fault = at.fault }) }
+    ensures { result ≡ Err (carried (record { position = position_of (4 * K.size) dimension at.position; fault = at.fault })) }
 {
     let position = position::<K>(dimension, at.position);
     let fault = at.fault;
-    Located { position, fault }.into()
+    Err(Located { position, fault }.into())
 }
 
 // Bytes and no `Packet`: a weighing hands on what it found, and not what it looked at.
@@ -74,6 +74,6 @@ pub fn read_units<K: Kind>(
     match read_row::<K>(&packet[8..], units, list) {
         Ok(()) => Ok(()),
         Err(RowFault::List) => Err(PacketFault::List),
-        Err(RowFault::Unit(at)) => Err(unit_fault::<K>(dimension, at)),
+        Err(RowFault::Unit(at)) => refuse_unit::<K>(dimension, at),
     }
 }

@@ -7,8 +7,8 @@ use Rattle.listeners.specs.Hearing.{position_of}
 use Rattle.listeners.proofs.Reading.{unit_inside, read_ok, read_unit}
 use Rattle.listeners.proofs.listener.parts.read_units.Goals as goal
 
-pub unit_fault-requires : goal.unit_fault-requires
-unit_fault-requires g c =
+pub refuse_unit-requires : goal.refuse_unit-requires
+refuse_unit-requires g c =
     let p = c.args.plan.now in
     let packet = c.args.packet.now in
     let s = stream p in
@@ -35,5 +35,5 @@ returns-in-Err-Unit g c =
     let at = c.in-Err-Unit.at in
     let count = ap (λ d. d * c.args.blocks) c.dimension-dimension.ensures in
     let r = read_unit s c.args.list.now c.read_row.new.list c.args.blocks packet _ _ count (take_rest packet 8) at (sym (c.in-Err-Unit.is ∙ ap Err c.in-Err-Unit.field-0-is) ∙ c.read_row.ensures.answer) c.read_row.ensures.units in
-    let fault = c.unit_fault.ensures ∙ ap (λ d. carried (record { position = position_of (unit_bytes s) d at.position; fault = at.fault })) c.dimension-dimension.ensures in
-    (r.0 ∙ ap Some (sym fault), r.1)
+    let fault = ap (λ d. carried (record { position = position_of (unit_bytes s) d at.position; fault = at.fault })) c.dimension-dimension.ensures in
+    rw c.refuse_unit.ensures (r.0 ∙ ap Some (sym fault), r.1)
