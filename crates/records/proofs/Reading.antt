@@ -1,5 +1,5 @@
 -- The records of some bytes, one after another.
-use Rattle.std.proofs.Common.{◌≡◌, ℕ, zero, suc, ◌-◌, ◌*◌, ◌<◌, ◌≤◌, Bool, true, false, List, [], ◌∷◌, length, drop, map, sym, refl, ap, ◌∙◌, arith}
+use Rattle.std.proofs.Common.{◌≡◌, ℕ, zero, suc, ◌+◌, ◌-◌, ◌*◌, ◌<◌, ◌≤◌, Bool, true, false, List, [], ◌∷◌, length, drop, fold, map, sym, refl, ap, ◌∙◌, arith}
 use Rattle.std.proofs.lemmas.List.{length-drop, length-take-le}
 use Rattle.std.proofs.lemmas.List.Sums.{sum_by-cons}
 use Rattle.std.proofs.lemmas.Bool.{cond-true, cond-false, leb-true}
@@ -53,6 +53,15 @@ up_to_inside (suc n) bs true e =
 
 pub records_inside : (bs : List ℕ) → extent (records bs) ≤ length bs
 records_inside bs = up_to_inside (length bs) bs (whole bs) refl
+
+-- where the record after some others stands: their number and their bytes further on
+pub number_behind : (p : RecordPosition) (rs : List Record) → (fold behind p rs).number ≡ p.number + length rs
+number_behind p [] = omega arith
+number_behind p (r ∷ rs) = omega (arith, number_behind (behind p r) rs)
+
+pub place_behind : (p : RecordPosition) (rs : List Record) → (fold behind p rs).place ≡ fold (λ n r. n + size_of r) p.place rs
+place_behind p [] = refl
+place_behind p (r ∷ rs) = place_behind (behind p r) rs
 
 -- records with their positions
 pub placed_none : (p : RecordPosition) (bs : List ℕ) → whole bs ≡ false → placed p (records bs) ≡ []
