@@ -12,7 +12,7 @@ use records::{Records, Reel, ReelFault, check};
 use reels::ReelPlan;
 use reports::Report;
 
-/// The plan and the records of a reel that passes the check, whose laws hold of it.
+/// The plan and the records of a reel that passes the check.
 fn accepted(reel: &[u8]) -> Result<(ReelPlan, Records<'_>), ReelFault>
     ensures cases { MatchResult result
         (λ x. (check_refusal reel.now ≡ None) × Names (trailer reel.now) x.0 × (records_left x.1 ≡ reel_placed reel.now))
@@ -45,7 +45,8 @@ fn hear_by(
 // Two lists of the caller's, of any length each; a reel uses the one of its kind.
 /// Grades a reel: it is checked, and its records are heard in order with a new listener, their units
 /// going to the front of the list of their kind. A refused reel leaves both lists as they were. An
-/// accepted reel is its records and its trailer, and what was captured and closed is accepted.
+/// accepted reel is its records and its trailer, and what was captured on a plan that was made, and
+/// closed, is accepted.
 pub fn grade_reel(
     reel: &[u8],
     quadlets: &mut [Am824Unit],
